@@ -10,12 +10,12 @@ use Rattle.std.proofs.lemmas.List.{append_assoc}
 use Rattle.std.specs.Cmp.Lexicographic.{same_text}
 use Rattle.std.specs.List.{list_all}
 use Rattle.std.specs.Str.{bytes_eq}
-use Rattle.command_rules.specs.commands.{arguments_of, row_of, words_of}
+use Rattle.command_words.specs.Requests.{arguments_of, request_of, words_of}
 use Rattle.command_line.specs.internal.CommandLine.{command, tool}
 use Rattle.command_line.specs.internal.Met.{IsFound, IsGenFound, IsMet}
-use Rattle.command_rules.specs.Words.{AskFor, is_argument}
-use Rattle.command_rules.specs.declared.requests.Settings.TheVariants.{Certify, Check, Gen, Omega, Pgcl, Print, Refute, Remainder, Run, Verify}
-use Rattle.command_rules.specs.declared.requests.Settings.{Settings}
+use Rattle.command_words.specs.Words.{AskFor, is_argument}
+use Rattle.command_words.specs.declared.requests.Settings.TheVariants.{Certify, Check, Gen, Omega, Pgcl, Print, Refute, Remainder, Run, Verify}
+use Rattle.command_words.specs.declared.requests.Settings.{Settings}
 
 -- The names of the arguments of a command, in order: of one that has a file alone, of `run` and `refute`, of `omega` and `remainder`, of `check`
 -- and of `gen`.
@@ -348,7 +348,7 @@ other_word word more (plain b bs h) (v, (p, (r, (c, (k, (g, (q, (o, (m, (f, end)
 
 -- The words are those of a command without numbers, or `gen` and one that may be an argument.
 data Spell (words : List Text) : Type 0 where
-  by_command : (s : Settings) → words ≡ words_of s → (row_of s).fits ≡ true → Spell words
+  by_command : (s : Settings) → words ≡ words_of s → (request_of s).fits ≡ true → Spell words
   by_number : (w : Text) → words ≡ codes "gen" ∷ w ∷ [] → is_argument w ≡ true → Spell words
 
 command_spells : (name : Text) (names : List Text) → IsCommand name names → (rest : List Text) → list_all is_argument rest ≡ true → leaf_fault name names rest ≡ [] → Spell (name ∷ rest)
@@ -382,7 +382,7 @@ words_spell (word ∷ rest) h none = let (first, more) = are_plain word rest h i
 -- What is met where the words are taken.
 met_by : (words : List Text) (met : Option (Text × List Row)) → list_all is_argument words ≡ true → met ≡ subcommand_of tool words → Spell words → IsMet words met
 met_by words met h same (Spell.by_command s words_are fits) =
-    let arguments = (are_plain (row_of s).form.word (arguments_of s) (subst (λ (ws : List Text). list_all is_argument ws ≡ true) words_are h)).1 in
+    let arguments = (are_plain (request_of s).form.word (arguments_of s) (subst (λ (ws : List Text). list_all is_argument ws ≡ true) words_are h)).1 in
     let met_is : met ≡ subcommand_of tool (words_of s) = same ∙ ap (λ (ws : List Text). subcommand_of tool ws) words_are in
     IsMet.asked s (record { words_are = words_are; arguments = arguments; fits = fits }) (subst (λ (o : Option (Text × List Row)). IsFound s o) (sym met_is) (finds_asked s arguments))
 met_by words met h same (Spell.by_number w words_are is) =

@@ -1,11 +1,11 @@
 -- What the words of `gen` ask for, once they were met.
 use Rattle.clap.specs.Words.{Row, Text, first_of}
-use Rattle.command_rules.specs.LineCounts.{is_line_count}
-use Rattle.command_rules.specs.commands.{row_of}
-use Rattle.command_rules.specs.declared.requests.Settings.TheVariants.{Certify, Check, Gen, Omega, Pgcl, Print, Refute, Remainder, Run, Verify}
-use Rattle.command_rules.specs.declared.requests.Settings.{Settings}
-use Rattle.command_rules.specs.declared.requests.SettingsStop.TheVariants.{Memory, Usage}
-use Rattle.command_rules.specs.declared.requests.SettingsStop.{SettingsStop}
+use Rattle.command_words.specs.LineCounts.{is_line_count}
+use Rattle.command_words.specs.Requests.{request_of}
+use Rattle.command_words.specs.declared.requests.Settings.TheVariants.{Certify, Check, Gen, Omega, Pgcl, Print, Refute, Remainder, Run, Verify}
+use Rattle.command_words.specs.declared.requests.Settings.{Settings}
+use Rattle.command_words.specs.declared.requests.SettingsStop.TheVariants.{Memory, Usage}
+use Rattle.command_words.specs.declared.requests.SettingsStop.{SettingsStop}
 use Rattle.command_line.specs.internal.Met.{IsFound, IsGenRead, IsMemory}
 use Rattle.std.proofs.Common.{Bool, Err, List, MatchResult, None, Ok, Option, Result, Some, [], ap, arith, codes, decimal, false, refl, sym, true, ◌<◌, ◌^◌, ◌∙◌, ◌∷◌, ◌≡◌, ℕ}
 use Rattle.std.proofs.lemmas.Bool.Decides.{nat_tests}
@@ -51,7 +51,7 @@ read_is n word (Err Usage) fits is read = absurd (read n (record { fits = fits; 
 read_is n word (Err (Memory error)) fits is read = tt
 
 pub gen_met : (rows : List Row) (word : Text) (r : Result Settings SettingsStop) → ((text : Text) → first_of (codes "N") rows ≡ Some text → word ≡ text) → IsGenRead word r →
-    (s : Settings) → (row_of s).fits ≡ true → IsFound s (Some (codes "gen", rows)) → MatchResult r (λ found. found ≡ s) (λ stop. IsMemory stop)
+    (s : Settings) → (request_of s).fits ≡ true → IsFound s (Some (codes "gen", rows)) → MatchResult r (λ found. found ≡ s) (λ stop. IsMemory stop)
 gen_met rows word r value read (Verify f) fits found = absurd (differ (codes "verify") refl (ap name_of found))
 gen_met rows word r value read (Print f) fits found = absurd (differ (codes "print") refl (ap name_of found))
 gen_met rows word r value read (Run f p s) fits found = absurd (differ (codes "run") refl (ap name_of found))

@@ -1,5 +1,5 @@
 -- The words that ask for lines.
-use Rattle.command_rules.specs.LineCounts.{AsksFor, is_line_count}
+use Rattle.command_words.specs.LineCounts.{AsksFor, is_line_count}
 use Rattle.std.proofs.Common.{List, Ok, Result, arith, true, ◌≡◌, ◌≤◌, ℕ}
 use Rattle.std.proofs.lemmas.Bool.Decides.{nat_tests}
 use Rattle.std.proofs.lemmas.Fmt.{parse-decimal}

@@ -6,14 +6,14 @@ ghost use Rattle.std.specs.List.{list_all};
 ghost use Rattle.std.specs.Prelude.{IfErr, IfOk, List, MatchResult, Some, false, map, string_bytes, true, ◌≡◌, ℕ};
 ghost use Rattle.command_line.specs.internal.CommandLine.{argument, command, tool};
 ghost use Rattle.command_line.specs.internal.Met.{IsFound, IsGenFound, IsGenRead, IsMemory, IsMet};
-ghost use Rattle.command_rules.specs.commands.{row_of};
-ghost use Rattle.command_rules.specs.Words.{AskFor, IsSettingsStop, is_argument};
-ghost use Rattle.command_rules.specs.declared.requests.Settings.{Settings};
+ghost use Rattle.command_words.specs.Requests.{request_of};
+ghost use Rattle.command_words.specs.Words.{AskFor, IsSettingsStop, is_argument};
+ghost use Rattle.command_words.specs.declared.requests.Settings.{Settings};
 
 use crate::line_count;
 use clap::error::ErrorKind;
 use clap::{Arg, ArgAction, ArgMatches, Command};
-use command_rules::{Settings, SettingsStop, Word};
+use command_words::{Settings, SettingsStop, Word};
 use std::alloc::{AllocError, Global};
 
 /// What is written where the words are no command.
@@ -125,7 +125,7 @@ fn command_met(
     name: &str,
     matches: &ArgMatches<'_>,
 ) -> Result<Settings, SettingsStop>
-    ensures found { (settings : Settings) → (row_of settings).fits ≡ true → IsFound settings (Some (name.now, rows_of (found_of matches.now)))
+    ensures found { (settings : Settings) → (request_of settings).fits ≡ true → IsFound settings (Some (name.now, rows_of (found_of matches.now)))
         → MatchResult result (λ found. found ≡ settings) (λ stop. IsMemory stop) }
     ensures numbered { (word : List ℕ) → IsGenFound word (Some (name.now, rows_of (found_of matches.now))) → IsGenRead word result }
 {
@@ -170,7 +170,7 @@ fn command_met(
 
 /// The command that was met, with its words.
 fn met(alloc: Global, matches: &ArgMatches<'_>) -> Result<Settings, SettingsStop>
-    ensures found { (settings : Settings) → (row_of settings).fits ≡ true → IsFound settings (subcommand_rows_of matches.now)
+    ensures found { (settings : Settings) → (request_of settings).fits ≡ true → IsFound settings (subcommand_rows_of matches.now)
         → MatchResult result (λ found. found ≡ settings) (λ stop. IsMemory stop) }
     ensures numbered { (word : List ℕ) → IsGenFound word (subcommand_rows_of matches.now) → IsGenRead word result }
 {

@@ -1,6 +1,6 @@
 //! How many lines a word asks for.
 
-ghost use Rattle.command_rules.specs.LineCounts.{AsksFor};
+ghost use Rattle.command_words.specs.LineCounts.{AsksFor};
 ghost use Rattle.std.specs.Prelude.{MatchOption, ℕ};
 
 use itoa::Buffer;

@@ -5,9 +5,6 @@ pub mod RunTexts
 pub mod RunStarts
 pub mod Responses
 pub mod Refusals
-pub mod LineCounts
 pub mod Summaries
 pub mod Reports
 pub mod commands
-pub mod Words
-pub mod internal

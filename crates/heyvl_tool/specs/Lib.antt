@@ -1,5 +1,6 @@
+pub use Rattle.command_words.specs.Requests
+pub use Rattle.command_words.specs.Words
 pub use Rattle.command_rules.specs.commands
-pub use Rattle.command_rules.specs.Words
 pub use Rattle.tool_laws.specs.Calls
 pub use Rattle.tool_laws.specs.SourceUses
 pub use Rattle.tool_laws.specs.Outcomes

@@ -2,7 +2,8 @@
 
 ghost use Rattle.spelled_files.specs.Sources.{file_limit};
 ghost use Rattle.command_rules.specs.Responses.{reply_of};
-ghost use Rattle.command_rules.specs.commands.{IsReplyTo, row_of};
+ghost use Rattle.command_rules.specs.commands.{IsReplyTo};
+ghost use Rattle.command_words.specs.Requests.{request_of};
 ghost use Rattle.std.specs.Prelude.{IfOk, length, true, ◌≡◌, ◌≤◌};
 
 use crate::{Response, Settings};
@@ -19,7 +20,7 @@ pub fn respond(
     bytes: &[u8],
     second: &[u8],
 ) -> Result<Response, AllocError>
-    requires fits { (row_of settings.now).fits ≡ true }
+    requires fits { (request_of settings.now).fits ≡ true }
     requires short { length bytes.now ≤ file_limit }
     requires short_second { length second.now ≤ file_limit }
     ensures { IfOk result (λ response. IsReplyTo settings.now bytes.now second.now (reply_of response)) }

@@ -6,7 +6,7 @@ mod moments;
 mod tool;
 
 pub use command_line::settings;
-pub use command_rules::{Files, Settings, SettingsStop, Word};
+pub use command_words::{Files, Settings, SettingsStop, Word};
 pub use commands::respond;
 pub use goal_answers::{Miss, NamedGoal};
 pub use heylo_formula::{GoalId, Val};

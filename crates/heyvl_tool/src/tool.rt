@@ -10,8 +10,9 @@ ghost use Rattle.tool_laws.specs.Outcomes.{HasCause, IsAnswered, IsDelivered, Is
 ghost use Rattle.tool_laws.specs.Refutations.{ViolationsAreMeant};
 ghost use Rattle.command_rules.specs.Responses.{reply_of};
 ghost use Rattle.tool_laws.specs.SourceUses.{IsReadInTurn, IsStartedOnce, IsStartedRight};
-ghost use Rattle.command_rules.specs.commands.Files.{one, two};
-ghost use Rattle.command_rules.specs.commands.{IsReplyTo, files_of, row_of};
+ghost use Rattle.command_words.specs.Requests.Files.{one, two};
+ghost use Rattle.command_rules.specs.commands.{IsReplyTo};
+ghost use Rattle.command_words.specs.Requests.{files_of, request_of};
 ghost use Rattle.tool_laws.specs.Refusals.{IsUnread};
 ghost use Rattle.std.specs.Prelude.{IfOk, IsErr, length, map, string_bytes, true, ◌≡◌, ◌≤◌, ◌⊎◌};
 
@@ -98,7 +99,7 @@ fn answer_to<F: Source>(
     settings: &Settings,
     source: &mut F,
 ) -> Result<Response, AllocError>
-    requires { (row_of settings.now).fits ≡ true }
+    requires { (request_of settings.now).fits ≡ true }
     ensures answer { IfOk result (λ response. IsFilesReply (files_of settings.now) (IsReplyTo settings.now) (⟦<F as Called>⟧.told source.old)
         (⟦<F as Called>⟧.seen source.old) (⟦<F as Called>⟧.seen source.new) (reply_of response)) }
     ensures turn { IsReadInTurn (files_of settings.now) (⟦<F as Called>⟧.told source.old) (⟦<F as Called>⟧.seen source.old) (⟦<F as Called>⟧.seen source.new) }
@@ -118,7 +119,7 @@ fn answer_one<F: Source>(
     file: &str,
     source: &mut F,
 ) -> Result<Response, AllocError>
-    requires { (row_of settings.now).fits ≡ true }
+    requires { (request_of settings.now).fits ≡ true }
     ensures answer { IfOk result (λ response. IsFilesReply (one file.now) (IsReplyTo settings.now) (⟦<F as Called>⟧.told source.old)
         (⟦<F as Called>⟧.seen source.old) (⟦<F as Called>⟧.seen source.new) (reply_of response)) }
     ensures turn { IsReadInTurn (one file.now) (⟦<F as Called>⟧.told source.old) (⟦<F as Called>⟧.seen source.old) (⟦<F as Called>⟧.seen source.new) }
@@ -138,7 +139,7 @@ fn answer_two<F: Source>(
     second: &str,
     source: &mut F,
 ) -> Result<Response, AllocError>
-    requires { (row_of settings.now).fits ≡ true }
+    requires { (request_of settings.now).fits ≡ true }
     ensures answer { IfOk result (λ response. IsFilesReply (two file.now second.now) (IsReplyTo settings.now) (⟦<F as Called>⟧.told source.old)
         (⟦<F as Called>⟧.seen source.old) (⟦<F as Called>⟧.seen source.new) (reply_of response)) }
     ensures turn { IsReadInTurn (two file.now second.now) (⟦<F as Called>⟧.told source.old) (⟦<F as Called>⟧.seen source.old) (⟦<F as Called>⟧.seen source.new) }
@@ -158,7 +159,7 @@ fn answer_second<F: Source>(
     second: &str,
     source: &mut F,
 ) -> Result<Response, AllocError>
-    requires fits { (row_of settings.now).fits ≡ true }
+    requires fits { (request_of settings.now).fits ≡ true }
     requires short { length bytes.now ≤ file_limit }
     ensures answer { IfOk result (λ response. IsReadReply 1 (⟦<F as Called>⟧.told source.old) second.now
         (λ text now r. IsSaid (IsReplyTo settings.now bytes.now text) now (⟦<F as Called>⟧.seen source.new) r)

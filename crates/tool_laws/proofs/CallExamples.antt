@@ -15,12 +15,14 @@ use Rattle.command_rules.specs.Messages.{Reply, source_fault}
 use Rattle.tool_laws.specs.Outcomes.HasCause.{by_command, by_words}
 use Rattle.tool_laws.specs.Outcomes.{HasCause, IsCut, IsDelivered, IsWritten, Writing, usage}
 use Rattle.command_rules.specs.Statuses.{fault_status}
-use Rattle.command_rules.specs.Words.{AskFor, IsUsage}
-use Rattle.command_rules.specs.commands.{IsReplyTo, files_of, usage_line}
+use Rattle.command_words.specs.Words.{AskFor, IsUsage}
+use Rattle.command_words.specs.Forms.{usage_line}
+use Rattle.command_rules.specs.commands.{IsReplyTo}
+use Rattle.command_words.specs.Requests.{files_of}
 use Rattle.command_rules.specs.declared.faults.Fault.TheVariants as faults
 use Rattle.tool_laws.specs.declared.outcomes.Outcome.{Outcome}
-use Rattle.command_rules.specs.declared.requests.Settings.TheVariants.{Certify, Check, Gen, Omega, Pgcl, Print, Refute, Remainder, Run, Verify}
-use Rattle.command_rules.specs.declared.requests.Settings.{Settings}
+use Rattle.command_words.specs.declared.requests.Settings.TheVariants.{Certify, Check, Gen, Omega, Pgcl, Print, Refute, Remainder, Run, Verify}
+use Rattle.command_words.specs.declared.requests.Settings.{Settings}
 use Rattle.run_unroller.specs.declared.answers.Unrolled.TheVariants.{Bits}
 use Rattle.std.proofs.Common.{List, None, Option, Some, [], ap, arith, codes, inl, inr, length, refl, subst, sym, ◌+◌, ◌++◌, ◌∙◌, ◌∷◌, ◌≡◌, ◌≤◌, ◌⊎◌, ℕ}
 use Rattle.std.specs.Prelude.{if◌then◌else◌}

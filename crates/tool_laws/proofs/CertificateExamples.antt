@@ -18,7 +18,7 @@ use Rattle.command_rules.specs.commands.Certify.{IsCertification}
 use Rattle.command_rules.specs.commands.Check.IsCheckedReply.{by_certificates, by_line}
 use Rattle.command_rules.specs.commands.Check.{IsCheckReply, IsCheckReport, IsCheckedReply, certificate_fault}
 use Rattle.command_rules.specs.declared.faults.Fault.TheVariants as faults
-use Rattle.command_rules.specs.declared.requests.Settings.TheVariants.{Check}
+use Rattle.command_words.specs.declared.requests.Settings.TheVariants.{Check}
 use Rattle.heyvl_acts.specs.Acts.{TypedProcedure, procedure_at}
 use Rattle.heyvl_acts.specs.Program.{IsProgram}
 use Rattle.static_rules.specs.Files.{first_fault}

@@ -26,8 +26,8 @@ use Rattle.command_rules.specs.commands.Verify.{IsReport}
 use Rattle.command_rules.specs.commands.{Front, IsReplyTo, row_of, verified_text}
 use Rattle.command_rules.specs.declared.faults.Fault.TheVariants as faults
 use Rattle.command_rules.specs.declared.faults.Fault.{Fault}
-use Rattle.command_rules.specs.declared.requests.Settings.TheVariants.{Certify, Check, Gen, Omega, Pgcl, Print, Refute, Remainder, Run, Verify}
-use Rattle.command_rules.specs.declared.requests.Settings.{Settings}
+use Rattle.command_words.specs.declared.requests.Settings.TheVariants.{Certify, Check, Gen, Omega, Pgcl, Print, Refute, Remainder, Run, Verify}
+use Rattle.command_words.specs.declared.requests.Settings.{Settings}
 use Rattle.static_rules.specs.Files.{first_fault, resolved}
 use Rattle.typed_expressions.specs.Findings.{Finding}
 use Rattle.lower_goals.specs.declared.answers.Omega.TheVariants as omega_answers

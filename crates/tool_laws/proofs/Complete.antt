@@ -5,9 +5,9 @@ use Rattle.tool_laws.proofs.exported.CallLemmas.{CameTo, came_to}
 use Rattle.tool_laws.specs.Calls.{Call}
 use Rattle.tool_laws.specs.Completeness.{CommandsAreComplete, IsComplete, WentWell}
 use Rattle.tool_laws.specs.Outcomes.{IsCut, IsDelivered, IsWritten, Writing}
-use Rattle.command_rules.specs.commands.{files_of}
+use Rattle.command_words.specs.Requests.{files_of}
 use Rattle.tool_laws.specs.declared.outcomes.Outcome.{Outcome}
-use Rattle.command_rules.specs.declared.requests.Settings.{Settings}
+use Rattle.command_words.specs.declared.requests.Settings.{Settings}
 use Rattle.std.proofs.Common.{arith, inl, inr, ◌⊎◌}
 
 from_came : (settings : Settings) (made : Call) (done : Writing) (outcome : Outcome) (reply : Reply) → WentWell made done outcome → CameTo settings (files_of settings) made reply → IsDelivered reply done outcome

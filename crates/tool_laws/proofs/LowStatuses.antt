@@ -9,9 +9,10 @@ use Rattle.command_rules.specs.FileReplies.IsTypedReply.{by_fault, by_file}
 use Rattle.command_rules.specs.FileReplies.{IsTypedReply}
 use Rattle.command_rules.specs.Messages.{Reply}
 use Rattle.tool_laws.specs.Outcomes.{IsCut, IsWritten, Writing}
-use Rattle.command_rules.specs.commands.{Files, IsReplyTo}
+use Rattle.command_rules.specs.commands.{IsReplyTo}
+use Rattle.command_words.specs.Requests.{Files}
 use Rattle.tool_laws.specs.declared.outcomes.Outcome.{Outcome}
-use Rattle.command_rules.specs.declared.requests.Settings.{Settings}
+use Rattle.command_words.specs.declared.requests.Settings.{Settings}
 use Rattle.static_rules.specs.Files.{first_fault, resolved}
 use Rattle.std.proofs.Common.{List, None, ap, arith, inl, inr, subst, sym, ◌∙◌, ◌≡◌, ◌≤◌, ◌⊎◌, ℕ}
 

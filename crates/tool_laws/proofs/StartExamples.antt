@@ -7,10 +7,10 @@ use Rattle.tool_laws.specs.Calls.{Moment, call, moment}
 use Rattle.tool_laws.specs.Outcomes.{IsAnswered, IsOutOfMemory, Writing}
 use Rattle.tool_laws.specs.SourceUses.{IsReadInTurn, IsStartedOnce, IsStartedRight, IsUntouched}
 use Rattle.tool_laws.specs.StartLaws.{AreFirst, HasNamesOf, StartsAreCounted, starts_of}
-use Rattle.command_rules.specs.commands.{files_of}
+use Rattle.command_words.specs.Requests.{files_of}
 use Rattle.command_rules.specs.declared.faults.Fault.TheVariants as faults
 use Rattle.tool_laws.specs.declared.outcomes.Outcome.{Outcome}
-use Rattle.command_rules.specs.declared.requests.Settings.{Settings}
+use Rattle.command_words.specs.declared.requests.Settings.{Settings}
 use Rattle.run_unroller.specs.declared.answers.Unrolled.TheVariants.{Full}
 use Rattle.std.proofs.Common.{IfSome, List, None, Option, Some, [], ap, arith, codes, inl, inr, length, refl, subst, ◌+◌, ◌∷◌, ◌≡◌, ◌⊎◌, ℕ}
 

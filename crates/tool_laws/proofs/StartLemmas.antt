@@ -9,12 +9,13 @@ use Rattle.tool_laws.specs.Outcomes.HasCause.{by_command, by_words}
 use Rattle.tool_laws.specs.Outcomes.{HasCause, IsAnswered, IsCut, IsOutOfMemory, IsWritten, Writing}
 use Rattle.tool_laws.specs.SourceUses.{IsReadInTurn, IsStartedRight, IsUntouched}
 use Rattle.tool_laws.specs.StartLaws.{AreFirst, HasNamesOf, StartsAreCounted, starts_of}
-use Rattle.command_rules.specs.Words.{AskFor}
-use Rattle.command_rules.specs.commands.{Files, IsReplyTo, files_of}
+use Rattle.command_words.specs.Words.{AskFor}
+use Rattle.command_rules.specs.commands.{IsReplyTo}
+use Rattle.command_words.specs.Requests.{Files, files_of}
 use Rattle.command_rules.specs.declared.faults.Fault.TheVariants as faults
 use Rattle.command_rules.specs.declared.faults.Fault.{Fault}
 use Rattle.tool_laws.specs.declared.outcomes.Outcome.{Outcome}
-use Rattle.command_rules.specs.declared.requests.Settings.{Settings}
+use Rattle.command_words.specs.declared.requests.Settings.{Settings}
 use Rattle.std.proofs.Common.{IfSome, List, Some, ap, inl, inr, subst, sym, true, ◌∙◌, ◌≡◌, ◌⊎◌, ℕ}
 use Rattle.std.proofs.lemmas.Bool.{false≢true}
 use Rattle.std.specs.Prelude.{slice_get}

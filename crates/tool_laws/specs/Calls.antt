@@ -4,7 +4,7 @@ use Rattle.heyvl_io.specs.Faults.{Rose}
 use Rattle.heyvl_io.specs.History.{History, IsTaken, handed_out}
 use Rattle.heyvl_io.specs.Order.{Order, order_after}
 use Rattle.command_rules.specs.Messages.{Reply, message}
-use Rattle.command_rules.specs.commands.{Files}
+use Rattle.command_words.specs.Requests.{Files}
 use Rattle.command_rules.specs.declared.faults.Fault.TheVariants as faults
 use Rattle.std.specs.Prelude.{IfSome, List, Option, [], codes, length, ◌+◌, ◌++◌, ◌<◌, ◌∷◌, ◌≡◌, ◌≤◌, ℕ}
 

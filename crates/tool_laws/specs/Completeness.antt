@@ -5,10 +5,11 @@ use Rattle.spelled_files.specs.Sources.{file_limit}
 use Rattle.tool_laws.specs.Calls.{AreRead, Call}
 use Rattle.command_rules.specs.Messages.{Reply}
 use Rattle.tool_laws.specs.Outcomes.{IsAnswered, IsOutOfMemory, IsWritten, Writing}
-use Rattle.command_rules.specs.Words.{AskFor}
-use Rattle.command_rules.specs.commands.{IsReplyTo, files_of}
+use Rattle.command_words.specs.Words.{AskFor}
+use Rattle.command_rules.specs.commands.{IsReplyTo}
+use Rattle.command_words.specs.Requests.{files_of}
 use Rattle.tool_laws.specs.declared.outcomes.Outcome.{Outcome}
-use Rattle.command_rules.specs.declared.requests.Settings.{Settings}
+use Rattle.command_words.specs.declared.requests.Settings.{Settings}
 use Rattle.std.specs.Prelude.{List, length, ◌≡◌, ◌≢◌, ◌≤◌, ◌⊎◌, ℕ}
 
 -- Neither the source nor the sink failed, no more bytes were handed out behind the last start than a file may have, and there was memory.

@@ -6,7 +6,7 @@ use Rattle.spelled_files.specs.Sources.{IsFileFault}
 use Rattle.command_rules.specs.Messages.{Reply, source_fault}
 use Rattle.command_rules.specs.commands.{Front, IsReplyTo, row_of}
 use Rattle.command_rules.specs.declared.faults.Fault.TheVariants.{Source}
-use Rattle.command_rules.specs.declared.requests.Settings.{Settings}
+use Rattle.command_words.specs.declared.requests.Settings.{Settings}
 use Rattle.static_rules.specs.Files.{first_fault}
 use Rattle.std.specs.Prelude.{List, Some, ◌≡◌, ℕ}
 

@@ -6,13 +6,14 @@ use Rattle.heyvl_syntax.specs.Procedures.{Procedure}
 use Rattle.tool_laws.specs.Calls.{AreRead, Call}
 use Rattle.tool_laws.specs.Headline.{IsVerifiedFrom}
 use Rattle.tool_laws.specs.Outcomes.{IsWritten, Writing}
-use Rattle.command_rules.specs.Words.{AskFor}
+use Rattle.command_words.specs.Words.{AskFor}
 use Rattle.command_rules.specs.commands.Print.{printed}
-use Rattle.command_rules.specs.commands.{Files, verified_text}
+use Rattle.command_rules.specs.commands.{verified_text}
+use Rattle.command_words.specs.Requests.{Files}
 use Rattle.command_rules.specs.declared.faults.Fault.TheVariants.{Nothing}
 use Rattle.tool_laws.specs.declared.outcomes.Outcome.{Outcome}
-use Rattle.command_rules.specs.declared.requests.Settings.TheVariants.{Pgcl}
-use Rattle.command_rules.specs.declared.requests.Settings.{Settings}
+use Rattle.command_words.specs.declared.requests.Settings.TheVariants.{Pgcl}
+use Rattle.command_words.specs.declared.requests.Settings.{Settings}
 use Rattle.std.specs.Prelude.{List, [], ◌≡◌, ℕ}
 use Rattle.verdict_report.specs.VerdictsOn.{IsVerdictOn}
 use Rattle.verdict_report.specs.declared.answers.Verdict.TheVariants.{Verified}

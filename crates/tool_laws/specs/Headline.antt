@@ -6,12 +6,13 @@ use Rattle.tool_laws.specs.Calls.{AreRead, Call}
 use Rattle.command_rules.specs.Messages.{Reply, message}
 use Rattle.tool_laws.specs.Outcomes.{IsDelivered, IsWritten, Writing}
 use Rattle.command_rules.specs.RunStarts.{procedure_named}
-use Rattle.command_rules.specs.Words.{AskFor}
-use Rattle.command_rules.specs.commands.{Files, IsReplyTo, files_of, verified_text}
+use Rattle.command_words.specs.Words.{AskFor}
+use Rattle.command_rules.specs.commands.{IsReplyTo, verified_text}
+use Rattle.command_words.specs.Requests.{Files, files_of}
 use Rattle.command_rules.specs.declared.faults.Fault.TheVariants.{Nothing}
 use Rattle.tool_laws.specs.declared.outcomes.Outcome.{Outcome}
-use Rattle.command_rules.specs.declared.requests.Settings.TheVariants.{Run}
-use Rattle.command_rules.specs.declared.requests.Settings.{Settings}
+use Rattle.command_words.specs.declared.requests.Settings.TheVariants.{Run}
+use Rattle.command_words.specs.declared.requests.Settings.{Settings}
 use Rattle.heyvl_acts.specs.Acts.{TypedProcedure, procedure_at}
 use Rattle.static_rules.specs.Files.{first_fault, resolved}
 use Rattle.run_machine.specs.ConfigConditions.{ReachesPrograms}

@@ -7,10 +7,10 @@ use Rattle.tool_laws.specs.Calls.{AreRead, Call}
 use Rattle.command_rules.specs.Messages.{stated}
 use Rattle.tool_laws.specs.Outcomes.{IsWritten, Writing}
 use Rattle.command_rules.specs.RunStarts.{procedure_named}
-use Rattle.command_rules.specs.Words.{AskFor}
-use Rattle.command_rules.specs.commands.{Files}
+use Rattle.command_words.specs.Words.{AskFor}
+use Rattle.command_words.specs.Requests.{Files}
 use Rattle.tool_laws.specs.declared.outcomes.Outcome.{Outcome}
-use Rattle.command_rules.specs.declared.requests.Settings.TheVariants.{Omega, Remainder}
+use Rattle.command_words.specs.declared.requests.Settings.TheVariants.{Omega, Remainder}
 use Rattle.static_rules.specs.Files.{first_fault, resolved}
 use Rattle.lower_rules.specs.OmegaAnswers.{OmegaHolds}
 use Rattle.lower_rules.specs.RemainderAnswers.{RemainderHolds}

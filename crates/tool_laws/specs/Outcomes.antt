@@ -4,11 +4,13 @@ use Rattle.heyvl_io.specs.Faults.{Rose}
 use Rattle.tool_laws.specs.Calls.{Call, IsFilesReply}
 use Rattle.command_rules.specs.Messages.{Reply, message}
 use Rattle.command_rules.specs.Statuses.{fault_status}
-use Rattle.command_rules.specs.Words.{AskFor, IsUsage}
-use Rattle.command_rules.specs.commands.{IsReplyTo, files_of, usage_line}
+use Rattle.command_words.specs.Words.{AskFor, IsUsage}
+use Rattle.command_words.specs.Forms.{usage_line}
+use Rattle.command_rules.specs.commands.{IsReplyTo}
+use Rattle.command_words.specs.Requests.{files_of}
 use Rattle.command_rules.specs.declared.faults.Fault.TheVariants as faults
 use Rattle.tool_laws.specs.declared.outcomes.Outcome.{Outcome}
-use Rattle.command_rules.specs.declared.requests.Settings.{Settings}
+use Rattle.command_words.specs.declared.requests.Settings.{Settings}
 use Rattle.std.specs.Prelude.{List, Option, [], length, take, ◌<◌, ◌≡◌, ◌⊎◌, ℕ}
 
 -- ---- What is answered to a call

@@ -7,11 +7,11 @@ use Rattle.heyvl_syntax.specs.SourceFaults.{IsSource}
 use Rattle.tool_laws.specs.Calls.{AreRead, Call}
 use Rattle.tool_laws.specs.Outcomes.{IsWritten, Writing}
 use Rattle.command_rules.specs.RunStarts.{procedure_named}
-use Rattle.command_rules.specs.Words.{AskFor}
+use Rattle.command_words.specs.Words.{AskFor}
 use Rattle.command_rules.specs.commands.Refute.{refute_start, violated}
-use Rattle.command_rules.specs.commands.{Files}
+use Rattle.command_words.specs.Requests.{Files}
 use Rattle.tool_laws.specs.declared.outcomes.Outcome.{Outcome}
-use Rattle.command_rules.specs.declared.requests.Settings.TheVariants.{Refute}
+use Rattle.command_words.specs.declared.requests.Settings.TheVariants.{Refute}
 use Rattle.static_rules.specs.Files.{first_fault, resolved}
 use Rattle.refute_runs.specs.ScriptedSums.{AreOfRuns}
 use Rattle.refute_runs.specs.Violations.{IsViolation}

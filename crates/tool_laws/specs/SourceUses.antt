@@ -1,9 +1,9 @@
 -- What a call may do to the source that it is handed.
 use Rattle.spelled_files.specs.Sources.{file_limit}
 use Rattle.tool_laws.specs.Calls.{Call, IsStarted, Moment, Names}
-use Rattle.command_rules.specs.Words.{AskFor, IsUsage}
-use Rattle.command_rules.specs.commands.{Files, files_of}
-use Rattle.command_rules.specs.declared.requests.Settings.{Settings}
+use Rattle.command_words.specs.Words.{AskFor, IsUsage}
+use Rattle.command_words.specs.Requests.{Files, files_of}
+use Rattle.command_words.specs.declared.requests.Settings.{Settings}
 use Rattle.std.specs.Prelude.{List, ◌+◌, ◌≡◌, ◌⊎◌, ℕ}
 
 -- Nothing was started, and nothing handed out.

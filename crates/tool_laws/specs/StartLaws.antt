@@ -3,12 +3,12 @@ use Rattle.heyvl_io.specs.Order.{first, other}
 use Rattle.tool_laws.specs.Calls.{Call}
 use Rattle.tool_laws.specs.Outcomes.{IsAnswered, IsOutOfMemory, Writing}
 use Rattle.tool_laws.specs.SourceUses.{IsStartedRight}
-use Rattle.command_rules.specs.Words.{AskFor}
-use Rattle.command_rules.specs.commands.{Files, files_of}
+use Rattle.command_words.specs.Words.{AskFor}
+use Rattle.command_words.specs.Requests.{Files, files_of}
 use Rattle.command_rules.specs.declared.faults.Fault.TheVariants as faults
 use Rattle.command_rules.specs.declared.faults.Fault.{Fault}
 use Rattle.tool_laws.specs.declared.outcomes.Outcome.{Outcome}
-use Rattle.command_rules.specs.declared.requests.Settings.{Settings}
+use Rattle.command_words.specs.declared.requests.Settings.{Settings}
 use Rattle.std.specs.Prelude.{IfSome, List, None, Option, Some, slice_get, ◌+◌, ◌≡◌, ◌≢◌, ◌⊎◌, ℕ}
 
 -- How many names were started, where the fault tells it.

@@ -1,7 +1,7 @@
 -- The commands of the tool as the crate `clap` sees them.
 use Rattle.clap.specs.Words.{App, Rule, Text, new_app, new_rule, with_rule, with_subcommand}
 use Rattle.clap.specs.declared.builder.ArgAction.TheVariants.{Set}
-use Rattle.command_rules.specs.commands.{Form, forms}
+use Rattle.command_words.specs.Forms.{Form, forms}
 use Rattle.std.specs.Prelude.{List, Some, codes, fold, map, true}
 
 -- An argument of this name: it has one value, and is not left out.

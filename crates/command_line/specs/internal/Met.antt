@@ -1,12 +1,13 @@
 -- What is met by the words, as the reader of the words looks for it.
 use Rattle.clap.specs.Words.{Row, Text, first_of}
-use Rattle.command_rules.specs.LineCounts.{AsksFor}
-use Rattle.command_rules.specs.Words.{AskFor, is_argument}
-use Rattle.command_rules.specs.commands.{arguments_of, generate, row_of}
-use Rattle.command_rules.specs.declared.requests.Settings.TheVariants as commands
-use Rattle.command_rules.specs.declared.requests.Settings.{Settings}
-use Rattle.command_rules.specs.declared.requests.SettingsStop.TheVariants.{Memory, Usage}
-use Rattle.command_rules.specs.declared.requests.SettingsStop.{SettingsStop}
+use Rattle.command_words.specs.LineCounts.{AsksFor}
+use Rattle.command_words.specs.Words.{AskFor, is_argument}
+use Rattle.command_words.specs.Forms.{generate}
+use Rattle.command_words.specs.Requests.{arguments_of, request_of}
+use Rattle.command_words.specs.declared.requests.Settings.TheVariants as commands
+use Rattle.command_words.specs.declared.requests.Settings.{Settings}
+use Rattle.command_words.specs.declared.requests.SettingsStop.TheVariants.{Memory, Usage}
+use Rattle.command_words.specs.declared.requests.SettingsStop.{SettingsStop}
 use Rattle.std.specs.Prelude.{Err, List, Ok, Option, Result, Some, [], map, option_map, true, ◌∷◌, ◌≡◌, ℕ}
 
 -- The name of the command that was met, and what the arguments of these names were given.
@@ -15,7 +16,7 @@ name_and_values names = option_map (λ met. (met.0, map (λ name. first_of name 
 
 -- The command that is asked for was met, and each of its arguments was given its word.
 abbrev pub IsFound : Settings → Option (Text × List Row) → Type 0
-IsFound settings met = name_and_values (row_of settings).form.names met ≡ Some ((row_of settings).form.word, map Some (arguments_of settings))
+IsFound settings met = name_and_values (request_of settings).form.names met ≡ Some ((request_of settings).form.word, map Some (arguments_of settings))
 
 -- `gen` was met, and its argument was given this word.
 abbrev pub IsGenFound : Text → Option (Text × List Row) → Type 0

@@ -1,5 +1,5 @@
 -- `gen N`: the summary of the answers on the generated text of N lines.
-use Rattle.command_rules.specs.LineCounts.{is_line_count}
+use Rattle.command_words.specs.LineCounts.{is_line_count}
 use Rattle.command_rules.specs.Reports.{IsSummary}
 use Rattle.command_rules.specs.Messages.{Reply, answered}
 use Rattle.command_rules.specs.declared.faults.Fault.TheVariants as faults

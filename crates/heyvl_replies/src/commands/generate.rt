@@ -1,6 +1,6 @@
 //! `gen N`: the summary of the answers on a generated text.
 
-ghost use Rattle.command_rules.specs.LineCounts.{is_line_count};
+ghost use Rattle.command_words.specs.LineCounts.{is_line_count};
 ghost use Rattle.command_rules.specs.Responses.{reply_of};
 ghost use Rattle.command_rules.specs.commands.Generate.{GeneratedTextsAreAnswered, IsGenReply};
 ghost use Rattle.std.specs.Prelude.{IfOk, true, ◌≡◌};

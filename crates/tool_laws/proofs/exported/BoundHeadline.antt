@@ -8,9 +8,9 @@ use Rattle.command_rules.specs.Messages.{Reply, stated}
 use Rattle.tool_laws.specs.Outcomes.{HasCause, IsDelivered, IsWritten, Writing}
 use Rattle.command_rules.specs.commands.Omega.{IsOmegaOf, omega_reply}
 use Rattle.command_rules.specs.commands.Remainder.{IsRemainderOf, remainder_reply}
-use Rattle.command_rules.specs.commands.{Files}
+use Rattle.command_words.specs.Requests.{Files}
 use Rattle.tool_laws.specs.declared.outcomes.Outcome.{Outcome}
-use Rattle.command_rules.specs.declared.requests.Settings.TheVariants as commands
+use Rattle.command_words.specs.declared.requests.Settings.TheVariants as commands
 use Rattle.static_rules.specs.Files.{resolved}
 use Rattle.lower_rules.specs.OmegaAnswers.{OmegaHolds}
 use Rattle.lower_rules.specs.RemainderAnswers.{IsPromised}

@@ -13,14 +13,15 @@ use Rattle.tool_laws.specs.Outcomes.HasCause.{by_command, by_words}
 use Rattle.tool_laws.specs.Outcomes.{HasCause}
 use Rattle.command_rules.specs.Responses.{reply_of}
 use Rattle.tool_laws.specs.SourceUses.{IsReadInTurn, IsStartedOnce}
-use Rattle.command_rules.specs.Words.{AskFor}
-use Rattle.command_rules.specs.commands.{Files, IsReplyTo, files_of, row_of, words_of}
-use Rattle.command_rules.specs.declared.requests.Settings.TheVariants.{Certify, Check, Gen, Omega, Pgcl, Print, Refute, Remainder, Run, Verify}
-use Rattle.command_rules.specs.declared.requests.Settings.{Settings}
+use Rattle.command_words.specs.Words.{AskFor}
+use Rattle.command_rules.specs.commands.{IsReplyTo}
+use Rattle.command_words.specs.Requests.{Files, files_of, request_of, words_of}
+use Rattle.command_words.specs.declared.requests.Settings.TheVariants.{Certify, Check, Gen, Omega, Pgcl, Print, Refute, Remainder, Run, Verify}
+use Rattle.command_words.specs.declared.requests.Settings.{Settings}
 use Rattle.command_rules.specs.declared.responses.Response.{Response}
 use Rattle.tool_laws.specs.Refusals.{IsUnread}
 use Rattle.std.proofs.Common.{Bool, Err, IfOk, IfSome, List, Ok, Result, [], ap, arith, codes, false, inl, inr, length, refl, subst, sym, true, ◌+◌, ◌<◌, ◌^◌, ◌∙◌, ◌∷◌, ◌≡◌, ◌≤◌, ℕ}
-use Rattle.command_rules.specs.LineCounts.{is_line_count}
+use Rattle.command_words.specs.LineCounts.{is_line_count}
 use Rattle.std.proofs.lemmas.Bool.Decides.{nat_tests}
 use Rattle.std.proofs.lemmas.Fmt.{decimal_is_IsNumeral}
 use Rattle.std.specs.Str.Parse.{digits_value}
@@ -40,7 +41,7 @@ settings_of other = Print []
 few_lines : (n : ℕ) → is_line_count n ≡ true → n < 2 ^ 64
 few_lines n h = grind (arith, nat_tests)
 
-settings_again : (s : Settings) → (row_of s).fits ≡ true → settings_of (words_of s) ≡ s
+settings_again : (s : Settings) → (request_of s).fits ≡ true → settings_of (words_of s) ≡ s
 unfolding settings_of
 settings_again (Verify f) h = refl
 settings_again (Print f) h = refl

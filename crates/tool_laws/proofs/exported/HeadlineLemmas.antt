@@ -6,9 +6,10 @@ use Rattle.tool_laws.specs.Calls.{Call}
 use Rattle.tool_laws.specs.Headline.{AnswersAreMeant, IsVerifiedFrom}
 use Rattle.command_rules.specs.Messages.{Reply}
 use Rattle.tool_laws.specs.Outcomes.{HasCause, IsDelivered, Writing}
-use Rattle.command_rules.specs.commands.{files_of, row_of, verified_text}
+use Rattle.command_rules.specs.commands.{row_of, verified_text}
+use Rattle.command_words.specs.Requests.{files_of}
 use Rattle.tool_laws.specs.declared.outcomes.Outcome.{Outcome}
-use Rattle.command_rules.specs.declared.requests.Settings.{Settings}
+use Rattle.command_words.specs.declared.requests.Settings.{Settings}
 use Rattle.static_rules.specs.Files.{resolved}
 use Rattle.std.proofs.Common.{List, [], refl, subst, sym, ◌∙◌}
 use Rattle.std.specs.Prelude.{◌≢◌}

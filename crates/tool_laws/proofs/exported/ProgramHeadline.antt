@@ -12,10 +12,10 @@ use Rattle.tool_laws.specs.Outcomes.{HasCause, IsDelivered, IsWritten, Writing}
 use Rattle.command_rules.specs.commands.Pgcl.IsPgclReply.{by_fault, by_file}
 use Rattle.command_rules.specs.commands.Pgcl.{IsPgclReply}
 use Rattle.command_rules.specs.commands.Print.{printed}
-use Rattle.command_rules.specs.commands.{Files}
+use Rattle.command_words.specs.Requests.{Files}
 use Rattle.command_rules.specs.declared.faults.Fault.TheVariants as faults
 use Rattle.tool_laws.specs.declared.outcomes.Outcome.{Outcome}
-use Rattle.command_rules.specs.declared.requests.Settings.TheVariants.{Pgcl}
+use Rattle.command_words.specs.declared.requests.Settings.TheVariants.{Pgcl}
 use Rattle.std.proofs.Common.{List, refl, subst, sym, ◌∙◌, ◌≡◌, ℕ}
 
 -- The file that bytes become, and that its text is the reply.

@@ -13,9 +13,9 @@ use Rattle.command_rules.specs.RunStarts.{known_at}
 use Rattle.command_rules.specs.commands.Refute.IsRefuteOf.{by_name, by_program, by_script, by_search, by_shape}
 use Rattle.command_rules.specs.commands.Refute.{IsRefuteOf, refute_start, refuted_reply, violated}
 use Rattle.command_rules.specs.commands.Run.{run_reply}
-use Rattle.command_rules.specs.commands.{Files}
+use Rattle.command_words.specs.Requests.{Files}
 use Rattle.tool_laws.specs.declared.outcomes.Outcome.{Outcome}
-use Rattle.command_rules.specs.declared.requests.Settings.TheVariants.{Refute}
+use Rattle.command_words.specs.declared.requests.Settings.TheVariants.{Refute}
 use Rattle.static_rules.specs.Files.{resolved}
 use Rattle.refute_runs.specs.RefutedAnswers.{IsRefutedAnswer}
 use Rattle.refute_runs.specs.ScriptedSums.{AreOfRuns}

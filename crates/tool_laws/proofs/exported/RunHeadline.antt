@@ -18,11 +18,11 @@ use Rattle.run_script.specs.Starts.{known_of, start_state}
 use Rattle.run_script.specs.Texts.{sums_text}
 use Rattle.command_rules.specs.commands.Run.IsRunOf.{by_name, by_program, by_run, by_script}
 use Rattle.command_rules.specs.commands.Run.{IsRunOf, IsRunReply, run_reply, runs_by}
-use Rattle.command_rules.specs.commands.{Files}
+use Rattle.command_words.specs.Requests.{Files}
 use Rattle.command_rules.specs.declared.faults.Fault.TheVariants as faults
 use Rattle.command_rules.specs.declared.faults.Fault.{Fault}
 use Rattle.tool_laws.specs.declared.outcomes.Outcome.{Outcome}
-use Rattle.command_rules.specs.declared.requests.Settings.TheVariants.{Run}
+use Rattle.command_words.specs.declared.requests.Settings.TheVariants.{Run}
 use Rattle.static_rules.specs.Files.{file_findings, first_fault, resolved}
 use Rattle.typed_expressions.specs.Findings.{Finding, first}
 use Rattle.resolved_laws.specs.ResolvedLaws.{ResolvedProceduresMeetRules}

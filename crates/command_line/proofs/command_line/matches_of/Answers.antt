@@ -5,7 +5,7 @@ use Rattle.std.specs.List.{list_all}
 use Rattle.command_line.proofs.ClapWords.{met_of, takes_asked, tool_is_free, tool_is_simple}
 use Rattle.command_line.proofs.command_line.matches_of.Goals as goal
 use Rattle.command_line.specs.internal.CommandLine.{tool}
-use Rattle.command_rules.specs.Words.{is_argument}
+use Rattle.command_words.specs.Words.{is_argument}
 
 pub returns-in-Ok-clause-met : goal.returns-in-Ok-clause-met
 returns-in-Ok-clause-met c =

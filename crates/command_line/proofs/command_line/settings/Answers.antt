@@ -2,7 +2,7 @@ use Rattle.std.proofs.Common.{map, string_bytes, sym, true, ◌∙◌, ◌≡◌
 use Rattle.std.proofs.lemmas.List.Folds.{list_all-map}
 use Rattle.command_line.proofs.ClapWords.{plain_asked}
 use Rattle.command_line.proofs.command_line.settings.Goals as goal
-use Rattle.command_rules.specs.Words.{is_argument}
+use Rattle.command_words.specs.Words.{is_argument}
 
 pub returns-then-not-are_arguments-clause-stop : goal.returns-then-not-are_arguments-clause-stop
 returns-then-not-are_arguments-clause-stop c settings asked =

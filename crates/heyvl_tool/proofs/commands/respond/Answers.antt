@@ -1,7 +1,7 @@
 use Rattle.heyvl_tool.proofs.commands.respond.Goals as goal
 use Rattle.command_rules.specs.Responses.{reply_of}
 use Rattle.command_rules.specs.commands.{IsReplyTo}
-use Rattle.command_rules.specs.declared.requests.Settings.{Settings}
+use Rattle.command_words.specs.declared.requests.Settings.{Settings}
 use Rattle.std.proofs.Common.{IfOk, subst, sym}
 
 pub returns-in-Gen : goal.returns-in-Gen

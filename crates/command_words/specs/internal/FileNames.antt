@@ -1,7 +1,7 @@
 -- The files of a command, as the program holds their names.
-use Rattle.command_rules.specs.commands as table
-use Rattle.command_rules.specs.declared.requests.Files.TheVariants as files
-use Rattle.command_rules.specs.declared.requests.Files.{Files}
+use Rattle.command_words.specs.Requests as table
+use Rattle.command_words.specs.declared.requests.Files.TheVariants as files
+use Rattle.command_words.specs.declared.requests.Files.{Files}
 
 -- The same files by their names.
 abbrev pub named : Files → table.Files

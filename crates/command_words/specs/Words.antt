@@ -1,8 +1,8 @@
 -- What the words of the command line ask for.
-use Rattle.command_rules.specs.commands.{arguments_of, row_of, words_of}
-use Rattle.command_rules.specs.declared.requests.Settings.{Settings}
-use Rattle.command_rules.specs.declared.requests.SettingsStop.TheVariants.{Memory, Usage}
-use Rattle.command_rules.specs.declared.requests.SettingsStop.{SettingsStop}
+use Rattle.command_words.specs.Requests.{arguments_of, request_of, words_of}
+use Rattle.command_words.specs.declared.requests.Settings.{Settings}
+use Rattle.command_words.specs.declared.requests.SettingsStop.TheVariants.{Memory, Usage}
+use Rattle.command_words.specs.declared.requests.SettingsStop.{SettingsStop}
 use Rattle.std.specs.List.{list_all}
 use Rattle.std.specs.Prelude.{Bool, List, [], false, nat_eq, not, true, ◌∷◌, ◌≡◌, ℕ}
 
@@ -15,7 +15,7 @@ is_argument (b ∷ bs) = not (nat_eq b 45)
 pub record AskFor (words : List (List ℕ)) (settings : Settings) : Type 0 where
   pub words_are : words ≡ words_of settings
   pub arguments : list_all is_argument (arguments_of settings) ≡ true
-  pub fits : (row_of settings).fits ≡ true
+  pub fits : (request_of settings).fits ≡ true
 
 -- The words are no command.
 abbrev pub IsUsage : List (List ℕ) → Type 0

@@ -1,8 +1,8 @@
 //! What the words of the command line ask for.
 
-ghost use Rattle.command_rules.specs.commands.{files_of};
-ghost use Rattle.command_rules.specs.declared.requests.SettingsStop.TheVariants.{Memory};
-ghost use Rattle.command_rules.specs.internal.FileNames.{named};
+ghost use Rattle.command_words.specs.Requests.{files_of};
+ghost use Rattle.command_words.specs.declared.requests.SettingsStop.TheVariants.{Memory};
+ghost use Rattle.command_words.specs.internal.FileNames.{named};
 ghost use Rattle.std.specs.Prelude.{◌≡◌};
 
 use crate::Word;
