@@ -13,7 +13,6 @@ use Rattle.linear_form.specs.internal.Evaluations.{asked_by, through, left_at, f
 use Rattle.linear_form.specs.internal.NodeSteps.{Comes, Steps}
 use Rattle.linear_form.specs.internal.Run.{along}
 use Rattle.linear_form.specs.declared.evaluations.Evaluation as V
-use Rattle.linear_form.specs.declared.evaluations.Focus.{Focus}
 use Rattle.linear_form.specs.declared.evaluations.Frame.{Frame}
 use Rattle.linear_form.specs.declared.kinds.Kind.{Kind}
 use Rattle.linear_form.specs.declared.node_steps.Step as S
@@ -33,19 +32,12 @@ nothing_behind ns i h = go (tree_at ns i) refl
 pub kind_arm : {E : Type 0} (ns : List Node) (r : M.Result S.Step E) (ps : List Taken) (p : V.Evaluation) (k k' : Kind) (fs : List Frame) (i : ℕ) → k ≡ k' → IfOk r (Steps ns ps (through ns (kind_asks (asks_at ns) k') fs) i (4 + 4 * kind_nodes ns k' + frames_weight ns fs) p) → IfOk r (Steps ns ps (through ns (kind_asks (asks_at ns) k) fs) i (4 + 4 * kind_nodes ns k + frames_weight ns fs) p)
 kind_arm ns r ps p k k' fs i e h = subst (λ k. IfOk r (Steps ns ps (through ns (kind_asks (asks_at ns) k) fs) i (4 + 4 * kind_nodes ns k + frames_weight ns fs) p)) (sym e) h
 
-pub kind_step : (ns : List Node) (s : S.Step) (ps : List Taken) (p : V.Evaluation) (k k' : Kind) (fs : List Frame) (i : ℕ) → k ≡ k' → Steps ns ps (through ns (kind_asks (asks_at ns) k') fs) i (4 + 4 * kind_nodes ns k' + frames_weight ns fs) p s → Steps ns ps (through ns (kind_asks (asks_at ns) k) fs) i (4 + 4 * kind_nodes ns k + frames_weight ns fs) p s
-kind_step ns s ps p k k' fs i e h = subst (λ k. Steps ns ps (through ns (kind_asks (asks_at ns) k) fs) i (4 + 4 * kind_nodes ns k + frames_weight ns fs) p s) (sym e) h
-
 -- what a node without parts comes to
 pub kind_came : {E : Type 0} (ns : List Node) (r : M.Result S.Step E) (came : M.Result Came Stop) (ps : List Taken) (old new : V.Evaluation) (k k' : Kind) (w : ℕ) → k ≡ k' → asked_by ns old.focus ≡ kind_asks (asks_at ns) k → Comes came (along ps (kind_asks (asks_at ns) k') old.at) → (Comes came (along ps (asked_by ns old.focus) old.at) → IfOk r (Steps ns ps (left_at ns old) old.at w new)) → IfOk r (Steps ns ps (through ns (kind_asks (asks_at ns) k) old.frames.items) old.at w new)
 kind_came ns r came ps old new k k' w e a h g = for_query ns r ps new _ _ old.frames.items old.at w (sym a) (g (subst (λ t. Comes came (along ps t old.at)) (sym (a ∙ ap (kind_asks (asks_at ns)) e)) h))
 
 pub asked_as : (ns : List Node) (i : ℕ) (t : Tree) (k : Kind) → tree_at ns i ≡ Some t → IsKindOf ns t k → asks_at ns i ≡ kind_asks (asks_at ns) k
 asked_as ns i t k e h = ap asked_if e ∙ h.asks
-
--- what the focus asks, told by its node
-pub focus_asks_as : (ns : List Node) (f : Focus) (i : ℕ) (t : Tree) (k : Kind) → asked_by ns f ≡ asks_at ns i → tree_at ns i ≡ Some t → IsKindOf ns t k → asked_by ns f ≡ kind_asks (asks_at ns) k
-focus_asks_as ns f i t k e g h = e ∙ asked_as ns i t k g h
 
 pub entered_as : {E : Type 0} (ns : List Node) (r : M.Result S.Step E) (ps : List Taken) (p : V.Evaluation) (j : ℕ) (t : Tree) (k : Kind) (fs : List Frame) (i : ℕ) → tree_at ns j ≡ Some t → IsKindOf ns t k → IfOk r (Steps ns ps (through ns (kind_asks (asks_at ns) k) fs) i (4 + 4 * kind_nodes ns k + frames_weight ns fs) p) → IfOk r (Steps ns ps (through ns (asks_at ns j) fs) i (4 * nodes_at ns j + frames_weight ns fs) p)
 entered_as ns r ps p j t k fs i e h g = for_query ns r ps p _ _ fs i _ (asked_as ns j t k e h) (with_more ns r ps _ i _ _ p (let n = ap nodes_if e in let l = h.size in omega (arith, n, l)) g)

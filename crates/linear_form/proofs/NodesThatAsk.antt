@@ -15,11 +15,11 @@ use Rattle.linear_form.specs.Questions.{asked, is_below}
 use Rattle.linear_form.specs.internal.LastingTrees.{Lasts}
 use Rattle.linear_form.specs.internal.Outcomes.{Result, of_bool}
 use Rattle.linear_form.specs.internal.NodeQuestions.{asks_at, kind_asks, with_second, either}
-use Rattle.linear_form.specs.internal.NodeTables.{HasValue, AreValues, AreAsking, IsNoted, Compares}
+use Rattle.linear_form.specs.internal.NodeTables.{AreValues, AreAsking, IsNoted, Compares}
 use Rattle.linear_form.specs.declared.kinds.Operation.{Operation}
 use Rattle.linear_form.specs.declared.kinds.Kind.{Kind}
 use Rattle.linear_form.proofs.SureQuestions.{lasts_bits, lasts_first, lasts_later, chosen_lasts}
-use Rattle.linear_form.proofs.NotedValues.{get_more, two_given, value_noted}
+use Rattle.linear_form.proofs.NotedValues.{get_more, two_given}
 
 -- ---- Values that differ in a variable
 
@@ -44,15 +44,15 @@ less_asks a b h = lasts_first 1 (is_below (minus a b) true) _ (h true)
 pub equal_asks : Compares Operation.Equal
 equal_asks a b h = lasts_first 1 (q.equal (Some a) (Some b)) _ (lasts_first 1 (is_below (minus a b) false) _ (h false))
 
-values_ask : (ns : List Node) (a b : ℕ) (x y : L.Lin) (d : Lin) (o : Operation) → HasValue ns a x → HasValue ns b y → d ≡ minus (lin_of x) (lin_of y) → has_no_terms d.terms ≡ false → Compares o → Lasts 1 (kind_asks (asks_at ns) (Kind.Two o a b))
-values_ask ns a b x y d o h k e n c = subst (Lasts 1) (sym (two_given ns a b x y o h k)) (c (lin_of x) (lin_of y) (λ strict. below_asks (minus (lin_of x) (lin_of y)) strict (sym (ap (λ d. has_no_terms d.terms) e) ∙ n)))
+values_ask : (ns : List Node) (vs : List (Option L.Lin)) (a b : ℕ) (x y : L.Lin) (d : Lin) (o : Operation) → AreValues ns vs → IsNoted vs a (Some x) → IsNoted vs b (Some y) → d ≡ minus (lin_of x) (lin_of y) → has_no_terms d.terms ≡ false → Compares o → Lasts 1 (kind_asks (asks_at ns) (Kind.Two o a b))
+values_ask ns vs a b x y d o v h k e n c = subst (Lasts 1) (sym (two_given ns vs o a b (Some x) (Some y) v h k)) (c (lin_of x) (lin_of y) (λ strict. below_asks (minus (lin_of x) (lin_of y)) strict (sym (ap (λ d. has_no_terms d.terms) e) ∙ n)))
 
 untrue : (b : Bool) → not b ≡ true → b ≡ false
 untrue true e = absurd (cc)
 untrue false e = refl
 
-pub noted_ask : (vs : List (Option L.Lin)) (a b : ℕ) (x y : L.Lin) (d : Lin) (c : Bool) → IsNoted vs a x → IsNoted vs b y → d ≡ minus (lin_of x) (lin_of y) → c ≡ has_no_terms d.terms → not c ≡ true → (ns : List Node) → AreValues ns vs → (o : Operation) → Compares o → Lasts 1 (kind_asks (asks_at ns) (Kind.Two o a b))
-noted_ask vs a b x y d c h k e n t ns v o g = values_ask ns a b x y d o (value_noted ns vs a x v h) (value_noted ns vs b y v k) e (sym n ∙ untrue c t) g
+pub noted_ask : (vs : List (Option L.Lin)) (a b : ℕ) (x y : L.Lin) (d : Lin) (c : Bool) → IsNoted vs a (Some x) → IsNoted vs b (Some y) → d ≡ minus (lin_of x) (lin_of y) → c ≡ has_no_terms d.terms → not c ≡ true → (ns : List Node) → AreValues ns vs → (o : Operation) → Compares o → Lasts 1 (kind_asks (asks_at ns) (Kind.Two o a b))
+noted_ask vs a b x y d c h k e n t ns v o g = values_ask ns vs a b x y d o v h k e (sym n ∙ untrue c t) g
 
 -- ---- Parts that ask
 

@@ -1,13 +1,13 @@
 -- Values that are noted of nodes.
-use Rattle.std.proofs.Common.{◌≡◌, ℕ, ◌+◌, List, [], ◌∷◌, ◌++◌, refl, sym, ap, ap₂, ◌∙◌, subst, ◌⊎◌, inl, inr, length, length-append, get_or, ◌<◌, arith, Bor}
+use Rattle.std.proofs.Common.{◌≡◌, ℕ, ◌+◌, List, [], ◌∷◌, ◌++◌, refl, sym, ap, ap₂, ◌∙◌, subst, ◌⊎◌, inl, inr, length, length-append, get_or, ◌<◌, arith}
 use Rattle.std.specs.Prelude as R
-use Rattle.std.specs.Prelude.{Option, Some, None, Ok, Err, IfOk, IfSome, option_copied, slice_get}
+use Rattle.std.specs.Prelude.{Option, Some, None, Ok, Err, IfOk, slice_get}
 use Rattle.std.proofs.lemmas.Option.{slice_get_read}
 use Prim.Native.Nat.{zero, suc}
 use Rattle.heylo_graph.specs.declared.nodes.Node.{Node}
 use Rattle.linear_values.specs.Lin.{variable}
-use Rattle.linear_values.specs.Kept.{IsKept}
-use Rattle.linear_values.specs.PlainValues.{lin_of}
+use Rattle.linear_values.specs.Kept.{IsKept, IsKeptValue}
+use Rattle.linear_values.specs.PlainValues.{lin_of, linear_of}
 use Rattle.linear_values.specs.declared.lin.Lin as L
 use Rattle.linear_form.specs.Query.{Query, Atom, next}
 use Rattle.linear_form.specs.Query.Query.{done, bits, ask}
@@ -44,25 +44,15 @@ kept_values ns vs h = record { each = λ i a e. (h.each i a e).kept }
 
 -- ---- Values that are noted
 
-pub noted_at : (vs : List (Option L.Lin)) (i : ℕ) (a : L.Lin) → slice_get vs i ≡ Some (Some a) → IsNoted vs i a
-noted_at vs i a e = record { noted = a; there = e; same = refl }
-
-pub noted_ref : (vs : List (Option L.Lin)) (i : ℕ) (v : Option L.Lin) (o : Option (Bor L.Lin)) → slice_get vs i ≡ Some v → option_copied o ≡ v → IfSome o (λ x. IsNoted vs i x.now)
-noted_ref vs i v None e h = tt
-noted_ref vs i v (Some x) e h = noted_at vs i x.now (e ∙ ap Some (sym h))
-
 -- what is read of the table, at the number of a node
-pub noted_entry : (vs : List (Option L.Lin)) (i j : ℕ) (v : Option L.Lin) (o : Option (Bor L.Lin)) → j ≡ i → j < length vs → v ≡ get_or vs j v → option_copied o ≡ v → IfSome o (λ x. IsNoted vs i x.now)
-noted_entry vs i j v o e l g h = noted_ref vs i v o (subst (λ k. slice_get vs k ≡ Some v) e (slice_get_read vs (length vs) j v refl l g)) h
+pub noted_entry : (vs : List (Option L.Lin)) (i j : ℕ) (v : Option L.Lin) (a : L.Lin) → j ≡ i → j < length vs → v ≡ get_or vs j v → v ≡ Some a → IsNoted vs i v
+noted_entry vs i j v a e l g h = record { noted = a; there = subst (λ k. slice_get vs k ≡ Some v) e (slice_get_read vs (length vs) j v refl l g) ∙ ap Some h; same = h }
 
-pub noted_copy : (vs : List (Option L.Lin)) (i : ℕ) (a b : L.Lin) → lin_of b ≡ lin_of a → IsNoted vs i a → IsNoted vs i b
-noted_copy vs i a b e h = record { noted = h.noted; there = h.there; same = e ∙ h.same }
+pub kept_noted : (vs : List (Option L.Lin)) (i : ℕ) (v : Option L.Lin) → AreKeptValues vs → IsNoted vs i v → IsKeptValue (linear_of v)
+kept_noted vs i v k h = subst (λ v. IsKeptValue (linear_of v)) (sym h.same) (k.each i h.noted h.there)
 
-pub kept_noted : (vs : List (Option L.Lin)) (i : ℕ) (a : L.Lin) → AreKeptValues vs → IsNoted vs i a → IsKept (lin_of a)
-kept_noted vs i a k h = subst IsKept (sym h.same) (k.each i h.noted h.there)
-
-pub value_noted : (ns : List Node) (vs : List (Option L.Lin)) (i : ℕ) (a : L.Lin) → AreValues ns vs → IsNoted vs i a → HasValue ns i a
-value_noted ns vs i a k h = let v = k.each i h.noted h.there in record { asks_nothing = v.asks_nothing ∙ ap (λ b. done (Result.number (Some b))) (sym h.same); kept = subst IsKept (sym h.same) v.kept }
+pub value_noted : (ns : List Node) (vs : List (Option L.Lin)) (i : ℕ) (v : Option L.Lin) → AreValues ns vs → IsNoted vs i v → asks_at ns i ≡ done (Result.number (linear_of v))
+value_noted ns vs i v k h = (k.each i h.noted h.there).asks_nothing ∙ ap (λ v. done (Result.number (linear_of v))) (sym h.same)
 
 -- ---- The value of a node
 
@@ -78,11 +68,11 @@ pub value_given : (q : Query Result) (o : O.Outcome) (x : Option L.Lin) (j : ℕ
 value_given q o None j e k h = tt
 value_given q o (Some a) j e k h = (asks_nothing q j (Result.number (Some (lin_of a))) (h ∙ ap (λ o. value (outcome_of o) j) e), subst IsKeptOutcome e k)
 
-pub two_given : (ns : List Node) (a b : ℕ) (x y : L.Lin) (o : Operation) → HasValue ns a x → HasValue ns b y → kind_asks (asks_at ns) (Kind.Two o a b) ≡ operation o (Some (lin_of x)) (Some (lin_of y))
-two_given ns a b x y o h k = ap₂ (λ p r. next p (with_second o r)) h.asks_nothing k.asks_nothing
+pub two_given : (ns : List Node) (vs : List (Option L.Lin)) (o : Operation) (a b : ℕ) (x y : Option L.Lin) → AreValues ns vs → IsNoted vs a x → IsNoted vs b y → kind_asks (asks_at ns) (Kind.Two o a b) ≡ operation o (linear_of x) (linear_of y)
+two_given ns vs o a b x y v h k = ap₂ (λ p r. next p (with_second o r)) (value_noted ns vs a x v h) (value_noted ns vs b y v k)
 
-pub one_given : (ns : List Node) (a : ℕ) (x : L.Lin) (o : Operation) → HasValue ns a x → kind_asks (asks_at ns) (Kind.One o a) ≡ operation o (Some (lin_of x)) None
-one_given ns a x o h = ap (λ p. next p (alone o)) h.asks_nothing
+pub one_given : (ns : List Node) (vs : List (Option L.Lin)) (o : Operation) (a : ℕ) (x : Option L.Lin) → AreValues ns vs → IsNoted vs a x → kind_asks (asks_at ns) (Kind.One o a) ≡ operation o (linear_of x) None
+one_given ns vs o a x v h = ap (λ p. next p (alone o)) (value_noted ns vs a x v h)
 
 -- the value of a node, made of what is noted of its parts
 pub noted_variable : (vs : List (Option L.Lin)) (k : Kind) (x : ℕ) (b : L.Lin) → k ≡ Kind.Variable x → lin_of b ≡ variable x → (ns : List Node) → AreValues ns vs → MayHave (kind_asks (asks_at ns) k) (Some b)
@@ -91,12 +81,12 @@ noted_variable vs k x b e h ns a = (ap (kind_asks (asks_at ns)) e ∙ ap (λ c. 
 pub kind_having : {E : Type 0} (r : R.Result (Option L.Lin) E) (vs : List (Option L.Lin)) (k k' : Kind) → k ≡ k' → IfOk r (λ v. (ns : List Node) → AreValues ns vs → MayHave (kind_asks (asks_at ns) k') v) → IfOk r (λ v. (ns : List Node) → AreValues ns vs → MayHave (kind_asks (asks_at ns) k) v)
 kind_having r vs k k' e h = subst (λ k. IfOk r (λ v. (ns : List Node) → AreValues ns vs → MayHave (kind_asks (asks_at ns) k) v)) (sym e) h
 
-pub noted_two : {E : Type 0} (r : R.Result (Option L.Lin) E) (vs : List (Option L.Lin)) (o : Operation) (a b : ℕ) (x y : L.Lin) → IsNoted vs a x → IsNoted vs b y → IfOk r (MayHave (operation o (Some (lin_of x)) (Some (lin_of y)))) → IfOk r (λ v. (ns : List Node) → AreValues ns vs → MayHave (kind_asks (asks_at ns) (Kind.Two o a b)) v)
-noted_two (Ok v) vs o a b x y h k g = λ ns m. subst (λ q. MayHave q v) (sym (two_given ns a b x y o (value_noted ns vs a x m h) (value_noted ns vs b y m k))) g
+pub noted_two : {E : Type 0} (r : R.Result (Option L.Lin) E) (vs : List (Option L.Lin)) (o : Operation) (a b : ℕ) (x y : Option L.Lin) → IsNoted vs a x → IsNoted vs b y → IfOk r (MayHave (operation o (linear_of x) (linear_of y))) → IfOk r (λ v. (ns : List Node) → AreValues ns vs → MayHave (kind_asks (asks_at ns) (Kind.Two o a b)) v)
+noted_two (Ok v) vs o a b x y h k g = λ ns m. subst (λ q. MayHave q v) (sym (two_given ns vs o a b x y m h k)) g
 noted_two (Err e) vs o a b x y h k g = g
 
-pub noted_one : {E : Type 0} (r : R.Result (Option L.Lin) E) (vs : List (Option L.Lin)) (o : Operation) (a : ℕ) (x : L.Lin) → IsNoted vs a x → IfOk r (MayHave (operation o (Some (lin_of x)) None)) → IfOk r (λ v. (ns : List Node) → AreValues ns vs → MayHave (kind_asks (asks_at ns) (Kind.One o a)) v)
-noted_one (Ok v) vs o a x h g = λ ns m. subst (λ q. MayHave q v) (sym (one_given ns a x o (value_noted ns vs a x m h))) g
+pub noted_one : {E : Type 0} (r : R.Result (Option L.Lin) E) (vs : List (Option L.Lin)) (o : Operation) (a : ℕ) (x : Option L.Lin) → IsNoted vs a x → IfOk r (MayHave (operation o (linear_of x) None)) → IfOk r (λ v. (ns : List Node) → AreValues ns vs → MayHave (kind_asks (asks_at ns) (Kind.One o a)) v)
+noted_one (Ok v) vs o a x h g = λ ns m. subst (λ q. MayHave q v) (sym (one_given ns vs o a x m h)) g
 noted_one (Err e) vs o a x h g = g
 
 -- a table with one more entry

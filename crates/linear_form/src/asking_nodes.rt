@@ -125,13 +125,13 @@ fn differ(alloc: Global, values: &[Option<Lin>], a: NodeId, b: NodeId) -> Result
     ensures { IfOk result (λ d. IsTrue d → (ns : List NodeValue) → AreValues ns values.now → (o : PlainOperation) → Compares o → Lasts 1 (kind_asks (asks_at ns) (PlainKind.Two o a b))) }
 {
     match noted(values, a) {
-        None => Ok(false),
-        Some(x) => match noted(values, b) {
-            None => Ok(false),
-            Some(y) => {
+        Some(Some(x)) => match noted(values, b) {
+            Some(Some(y)) => {
                 let left = minus(alloc, x, y)?;
                 Ok(!is_constant(&left))
             }
+            _ => Ok(false),
         },
+        _ => Ok(false),
     }
 }

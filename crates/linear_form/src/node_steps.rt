@@ -13,7 +13,7 @@ ghost use Rattle.linear_form.specs.internal.Run.{along};
 ghost use Rattle.linear_form.specs.internal.EvaluationResults.{Stops};
 ghost use Rattle.linear_form.specs.internal.Outcomes.{Result as Outcomes};
 ghost use Rattle.linear_form.specs.internal.NodeQuestions.{asks_at, kind_asks, kind_nodes, nodes_at};
-ghost use Rattle.linear_form.specs.internal.NodeTables.{AreValues};
+ghost use Rattle.linear_form.specs.internal.NodeTables.{AreValues, AreKeptValues};
 ghost use Rattle.linear_form.specs.internal.Evaluations.{resumed, asked_by, through, left_at, weight, focus_weight, frame_weight, frames_weight, IsKeptFocus, IsKeptFrame, AreKeptFrames};
 ghost use Rattle.linear_form.specs.internal.NodeSteps.{Steps, Comes, IsKeptOutcome, outcome_of};
 ghost use Rattle.linear_form.specs.declared.evaluations.Evaluation.{Evaluation as PlainEvaluation};
@@ -28,7 +28,7 @@ use crate::plain_values::noted;
 use heylo_graph::{Graph, NodeId};
 use heyvl_num::Frac;
 use linear_values::Lin;
-use linear_values::lin::{constant as constant_value, copy, copy_value, is_constant, variable};
+use linear_values::lin::{constant as constant_value, copy_value, is_constant, variable};
 use std::alloc::{AllocError, Global};
 
 /// What one step of an evaluation gives. It is small, since each step hands it on.
@@ -94,26 +94,29 @@ fn entered(
     ensures { IfOk result (Steps graph.now (path_of path.now) (through graph.now (asks_at graph.now id) place.old.frames.items) place.old.at (4 * nodes_at graph.now id + frames_weight graph.now place.old.frames.items) place.new) }
 {
     if let Some(x) = noted(values, id) {
-        let value = copy(alloc, x)?;
-        return value_given(alloc, place, Some(value));
+        let value = copy_value(alloc, x)?;
+        return value_given(alloc, place, value);
     }
     if graph.len() <= id.index() {
         return Ok(Step::Bits);
     }
-    begun(alloc, place, kind_of(graph.node(id)), path)
+    begun(alloc, values, place, kind_of(graph.node(id)), path)
 }
 
 /// What a node of a kind begins with: its first part, while a frame waits for its outcome, or its value where it has no parts.
+/// An operator on two parts whose values are noted is run at once.
 #[inline(never)]
 fn begun(
     alloc: Global,
+    values: &[Option<Lin>],
     place: &mut Evaluation,
     kind: Kind,
     path: &[Taken],
 ) -> Result<Step, AllocError>
+    requires values { AreKeptValues values.now }
     requires focus { IsKeptFocus place.old.focus }
     requires frames { AreKeptFrames place.old.frames.items }
-    ensures { (ns : List NodeValue) → asked_by ns place.old.focus ≡ kind_asks (asks_at ns) kind → IfOk result (Steps ns (path_of path.now) (through ns (kind_asks (asks_at ns) kind) place.old.frames.items) place.old.at (4 + 4 * kind_nodes ns kind + frames_weight ns place.old.frames.items) place.new) }
+    ensures { (ns : List NodeValue) → AreValues ns values.now → asked_by ns place.old.focus ≡ kind_asks (asks_at ns) kind → IfOk result (Steps ns (path_of path.now) (through ns (kind_asks (asks_at ns) kind) place.old.frames.items) place.old.at (4 + 4 * kind_nodes ns kind + frames_weight ns place.old.frames.items) place.new) }
 {
     match kind {
         Kind::Number(v) => {
@@ -130,7 +133,15 @@ fn begun(
             come_to(alloc, place, came)
         }
         Kind::Binder => Ok(Step::Bits),
-        Kind::Two(operator, a, b) => under(place, Frame::First(operator, b), a),
+        Kind::Two(operator, a, b) => {
+            if let Some(x) = noted(values, a) {
+                if let Some(y) = noted(values, b) {
+                    let came = operated(alloc, operator, x, y, path, place.at);
+                    return come_to(alloc, place, came);
+                }
+            }
+            under(place, Frame::First(operator, b), a)
+        }
         Kind::One(operator, a) => under(place, Frame::Only(operator), a),
         Kind::Either(g, a, b) => under(place, Frame::Either(a, b), g),
         Kind::Embed(g) => under(place, Frame::Embed, g),

@@ -18,7 +18,7 @@ use crate::operations::{Came, Outcome, number_came, operated};
 use crate::operators::number;
 use heylo_graph::{Graph, NodeId};
 use linear_values::Lin;
-use linear_values::lin::{copy, variable};
+use linear_values::lin::variable;
 use std::alloc::{AllocError, Global};
 
 /// How many terms the values of a goal's nodes have together at most: each first part of a sum of n variables has its terms again.
@@ -80,13 +80,11 @@ fn two_value(
     requires { AreKeptValues values.now }
     ensures { IfOk result (λ v. (ns : List NodeValue) → AreValues ns values.now → MayHave (kind_asks (asks_at ns) (PlainKind.Two operator a b)) v) }
 {
-    let one = copied(alloc, values, a)?;
-    let other = copied(alloc, values, b)?;
-    match one {
+    match noted(values, a) {
         None => Ok(None),
-        Some(x) => match other {
+        Some(x) => match noted(values, b) {
             None => Ok(None),
-            Some(y) => combined(alloc, operator, &Some(x), &Some(y)),
+            Some(y) => combined(alloc, operator, x, y),
         },
     }
 }
@@ -101,10 +99,9 @@ fn one_value(
     requires { AreKeptValues values.now }
     ensures { IfOk result (λ v. (ns : List NodeValue) → AreValues ns values.now → MayHave (kind_asks (asks_at ns) (PlainKind.One operator a)) v) }
 {
-    let part = copied(alloc, values, a)?;
-    match part {
+    match noted(values, a) {
         None => Ok(None),
-        Some(x) => combined(alloc, operator, &Some(x), &None),
+        Some(x) => combined(alloc, operator, x, &None),
     }
 }
 
@@ -148,22 +145,15 @@ fn number_in(outcome: Outcome) -> Option<Lin>
     }
 }
 
-/// The value that is noted of a node, once more.
-fn copied(alloc: Global, values: &[Option<Lin>], id: NodeId) -> Result<Option<Lin>, AllocError>
-    ensures { IfOk result (λ r. IfSome r (IsNoted values.now id)) }
-{
-    match noted(values, id) {
-        None => Ok(None),
-        Some(x) => Ok(Some(copy(alloc, x)?)),
-    }
-}
-
 /// The value that is noted of a node.
-pub(crate) fn noted(values: &[Option<Lin>], id: NodeId) -> Option<&Lin>
+pub(crate) fn noted(values: &[Option<Lin>], id: NodeId) -> Option<&Option<Lin>>
     ensures { IfSome result (λ x. IsNoted values.now id x.now) }
 {
     match values.get(id.index()) {
         None => None,
-        Some(value) => value.as_ref(),
+        Some(value) => match value {
+            None => None,
+            Some(_) => Some(value),
+        },
     }
 }

@@ -26,11 +26,11 @@ pub record AreValues (ns : List Node) (values : List (Option L.Lin)) : Type 0 wh
 pub record AreKeptValues (values : List (Option L.Lin)) : Type 0 where
   pub each : (i : ℕ) (a : L.Lin) → slice_get values i ≡ Some (Some a) → IsKept (lin_of a)
 
--- The value that is noted of a node, or a copy of it.
-pub record IsNoted (values : List (Option L.Lin)) (i : ℕ) (a : L.Lin) : Type 0 where
+-- The value that is noted of a node.
+pub record IsNoted (values : List (Option L.Lin)) (i : ℕ) (v : Option L.Lin) : Type 0 where
   pub noted : L.Lin
   pub there : slice_get values i ≡ Some (Some noted)
-  pub same : lin_of a ≡ lin_of noted
+  pub same : v ≡ Some noted
 
 -- Where yes is noted, each evaluation of the node asks a comparison.
 pub record AreAsking (ns : List Node) (table : List Bool) : Type 0 where
