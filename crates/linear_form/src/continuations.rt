@@ -25,11 +25,12 @@ pub fn begin(alloc: Global, goal: &Goal) -> Result<Place, AllocError>
     let made = goal_graph(alloc, goal)?;
     let mut frames = Vec::new(alloc);
     frames.push(Frame::Stated(made.found))?;
-    let evaluation = Evaluation {
+    let first = Evaluation {
         focus: Focus::Node(made.stated),
         frames,
         at: 0,
     };
+    let evaluation = Box::new(alloc, first)?;
     let graph = Rc::new(alloc, made)?;
     Ok(Place { graph, evaluation })
 }

@@ -29,7 +29,7 @@ use linear_values::Lin;
 pub fn asks_on(place: &Place, count: usize) -> bool
     ensures { (g : PlainGoal) (ps : List PlainTaken) (t : PlainTaken) → IsTrue result → length ps ≡ count → IsOn g ps place.now → IsPath g (ps ++ (t ∷ [])) → IsNoEnd g (ps ++ (t ∷ [])) }
 {
-    let evaluation = &place.evaluation;
+    let evaluation: &Evaluation = &place.evaluation;
     if evaluation.at == count {
         asks_twice(&place.graph.asking, evaluation)
     } else {

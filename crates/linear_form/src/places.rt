@@ -10,11 +10,11 @@ use std::marker::Model;
 use std::rc::Rc;
 
 /// A place of a path, at which an evaluation of a goal stands. Contracts see what is left to ask there, and how many answers of
-/// the path are behind it. The places of one goal share its graph.
+/// the path are behind it. The places of one goal share its graph. A place is small, since walks hand it on at each question.
 #[derive(Drop)]
 pub struct Place {
     pub(crate) graph: Rc<GoalGraph, Global>,
-    pub(crate) evaluation: Evaluation,
+    pub(crate) evaluation: Box<Evaluation>,
 }
 
 impl Model for Place {
@@ -28,9 +28,9 @@ impl Model for Place {
     ghost use Rattle.linear_form.specs.internal.Evaluations.{standing, IsKeptEvaluation};
     ghost use Rattle.linear_form.specs.internal.GoalGraphs.{HasTables};
 
-    ghost view = { λ p. standing p.graph.value.graph p.evaluation };
+    ghost view = { λ p. standing p.graph.value.graph p.evaluation.value };
 
-    ghost invariant = { λ p. HasTables p.graph.value × IsKeptEvaluation p.evaluation };
+    ghost invariant = { λ p. HasTables p.graph.value × IsKeptEvaluation p.evaluation.value };
 }
 
 /// What stands at the end of a path, and the place that the evaluation has reached.
@@ -44,7 +44,8 @@ pub struct Reached {
 pub(crate) fn copy_place(alloc: Global, place: &Place) -> Result<Place, AllocError>
     ensures { IfOk result (λ p. p ≡ place.now) }
 {
-    let evaluation = copy_evaluation(alloc, &place.evaluation)?;
+    let copied = copy_evaluation(alloc, &place.evaluation)?;
+    let evaluation = Box::new(alloc, copied)?;
     let graph = Rc::clone(&place.graph)?;
     Ok(Place { graph, evaluation })
 }

@@ -4,7 +4,7 @@ use Rattle.linear_form.specs.Paths.{end_at}
 use Rattle.linear_form.specs.Places.{IsOn}
 use Rattle.linear_form.specs.PlainPaths.{path_of, atom_of}
 use Rattle.linear_values.specs.PlainValues.{linear_of}
-use Rattle.linear_form.specs.internal.Evaluations.{standing}
+use Rattle.linear_form.specs.internal.Evaluations.{standing, IsKeptFocus, AreKeptFrames}
 use Rattle.linear_form.specs.internal.Run.Evaluation.{value, decide}
 use Rattle.linear_form.proofs.NodeRuns.{moved}
 use Rattle.linear_form.proofs.PlaceRuns.{values_there}
@@ -18,31 +18,31 @@ pub advance-requires-clause-values : goal.advance-requires-clause-values
 advance-requires-clause-values c = values_there c.place.inside.graph.value c.deref.result.now c.deref-in-steps.result.now c.deref-in-steps-2.result.now c.deref.ensures c.deref-in-steps.ensures c.deref-in-steps-2.ensures.value c.steps.invariant.tables.values
 
 pub advance-requires-clause-focus : goal.advance-requires-clause-focus
-advance-requires-clause-focus c = c.steps.invariant.kept.0
+advance-requires-clause-focus c = subst (λ e. IsKeptFocus e.focus) (sym c.deref_mut.ensures.value) c.steps.invariant.kept.0
 
 pub advance-requires-clause-frames : goal.advance-requires-clause-frames
-advance-requires-clause-frames c = c.steps.invariant.kept.1
+advance-requires-clause-frames c = subst (λ e. AreKeptFrames e.frames.items) (sym c.deref_mut.ensures.value) c.steps.invariant.kept.1
 
 pub steps-preserved : goal.steps-preserved
-steps-preserved c = let h = rw (c.deref.ensures, c.in-On.is) at c.in_ok-advance.ensures in let m = moved c.place.inside.graph.value.graph (goal_of c.args.goal.now) (path_of c.args.path.now) c.steps.now c.advance.new.place c.requires.path c.steps.invariant.on h.0 in record { on = m.0; kept = m.1; tables = c.steps.invariant.tables }
+steps-preserved c = let h = rw (c.deref.ensures, c.deref_mut.ensures.value, c.in-On.is) at c.in_ok-advance.ensures in let m = moved c.place.inside.graph.value.graph (goal_of c.args.goal.now) (path_of c.args.path.now) c.steps.now.value c.advance.new.place c.requires.path c.steps.invariant.on h.0 in record { on = m.0; kept = m.1; tables = c.steps.invariant.tables }
 
 pub steps-smaller : goal.steps-smaller
-steps-smaller c = let h = rw (c.deref.ensures, c.in-On.is) at c.in_ok-advance.ensures in h.1
+steps-smaller c = let h = rw (c.deref.ensures, c.deref_mut.ensures.value, c.in-On.is) at c.in_ok-advance.ensures in h.1
 
 pub returns-in-Asks-clause-asked : goal.returns-in-Asks-clause-asked
-returns-in-Asks-clause-asked c = let h = rw (c.deref.ensures, c.in-Asks.is) at c.in_ok-advance.ensures in on_decides (goal_of c.args.goal.now) (path_of c.args.path.now) (standing c.place.inside.graph.value.graph c.steps.now) c.into_inner.result c.requires.path c.steps.invariant.on (h.0 ∙ ap (λ a. decide (atom_of a)) (sym c.into_inner.ensures))
+returns-in-Asks-clause-asked c = let h = rw (c.deref.ensures, c.deref_mut.ensures.value, c.in-Asks.is) at c.in_ok-advance.ensures in on_decides (goal_of c.args.goal.now) (path_of c.args.path.now) (standing c.place.inside.graph.value.graph c.steps.now.value) c.into_inner.result c.requires.path c.steps.invariant.on (h.0 ∙ ap (λ a. decide (atom_of a)) (sym c.into_inner.ensures))
 
 pub returns-in-Asks-clause-on : goal.returns-in-Asks-clause-on
-returns-in-Asks-clause-on c = let h = rw (c.deref.ensures, c.in-Asks.is) at c.in_ok-advance.ensures in (moved c.place.inside.graph.value.graph (goal_of c.args.goal.now) (path_of c.args.path.now) c.steps.now c.advance.new.place c.requires.path c.steps.invariant.on h.1).0
+returns-in-Asks-clause-on c = let h = rw (c.deref.ensures, c.deref_mut.ensures.value, c.in-Asks.is) at c.in_ok-advance.ensures in (moved c.place.inside.graph.value.graph (goal_of c.args.goal.now) (path_of c.args.path.now) c.steps.now.value c.advance.new.place c.requires.path c.steps.invariant.on h.1).0
 
 pub returns-in-Ends-clause-asked : goal.returns-in-Ends-clause-asked
-returns-in-Ends-clause-asked c = let h = rw (c.deref.ensures, c.in-Ends.is) at c.in_ok-advance.ensures in on_ends (goal_of c.args.goal.now) (path_of c.args.path.now) (standing c.place.inside.graph.value.graph c.steps.now) c.into_inner-in-Ends.result c.into_inner-in-Ends-2.result h.0.0 c.requires.path c.steps.invariant.on (h.0.1 ∙ ap₂ (λ x y. value (linear_of x, linear_of y) h.0.0) (sym c.into_inner-in-Ends.ensures) (sym c.into_inner-in-Ends-2.ensures))
+returns-in-Ends-clause-asked c = let h = rw (c.deref.ensures, c.deref_mut.ensures.value, c.in-Ends.is) at c.in_ok-advance.ensures in on_ends (goal_of c.args.goal.now) (path_of c.args.path.now) (standing c.place.inside.graph.value.graph c.steps.now.value) c.into_inner-in-Ends.result c.into_inner-in-Ends-2.result h.0.0 c.requires.path c.steps.invariant.on (h.0.1 ∙ ap₂ (λ x y. value (linear_of x, linear_of y) h.0.0) (sym c.into_inner-in-Ends.ensures) (sym c.into_inner-in-Ends-2.ensures))
 
 pub returns-in-Ends-clause-on : goal.returns-in-Ends-clause-on
-returns-in-Ends-clause-on c = let h = rw (c.deref.ensures, c.in-Ends.is) at c.in_ok-advance.ensures in (moved c.place.inside.graph.value.graph (goal_of c.args.goal.now) (path_of c.args.path.now) c.steps.now c.advance.new.place c.requires.path c.steps.invariant.on h.1).0
+returns-in-Ends-clause-on c = let h = rw (c.deref.ensures, c.deref_mut.ensures.value, c.in-Ends.is) at c.in_ok-advance.ensures in (moved c.place.inside.graph.value.graph (goal_of c.args.goal.now) (path_of c.args.path.now) c.steps.now.value c.advance.new.place c.requires.path c.steps.invariant.on h.1).0
 
 pub returns-in-Bits-clause-asked : goal.returns-in-Bits-clause-asked
-returns-in-Bits-clause-asked c = end_asked c.anew.result _ (end_at (goal_of c.args.goal.now) (path_of c.args.path.now)) c.anew.ensures.same (on_bits (goal_of c.args.goal.now) (path_of c.args.path.now) (standing c.place.inside.graph.value.graph c.steps.now) c.requires.path c.steps.invariant.on (rw (c.deref.ensures, c.in-Bits.is) at c.in_ok-advance.ensures))
+returns-in-Bits-clause-asked c = end_asked c.anew.result _ (end_at (goal_of c.args.goal.now) (path_of c.args.path.now)) c.anew.ensures.same (on_bits (goal_of c.args.goal.now) (path_of c.args.path.now) (standing c.place.inside.graph.value.graph c.steps.now.value) c.requires.path c.steps.invariant.on (rw (c.deref.ensures, c.deref_mut.ensures.value, c.in-Bits.is) at c.in_ok-advance.ensures))
 
 pub returns-in-Bits-clause-on : goal.returns-in-Bits-clause-on
 returns-in-Bits-clause-on c = end_on c.anew.result (goal_of c.args.goal.now) (path_of c.args.path.now) c.anew.ensures.on
