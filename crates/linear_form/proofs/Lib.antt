@@ -41,7 +41,6 @@ pub mod PlaceRuns
 pub mod exported
 mod SplitAtoms
 mod SureQuestions
-mod FirstTerms
 mod KindsOfNodes
 mod KeptOperations
 mod NodeRuns

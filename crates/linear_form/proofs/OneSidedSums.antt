@@ -25,7 +25,7 @@ alone (u ∷ us) h = ap (merged us) put ∙ passed u us [] h.1.0 ∙ ap (λ z. u
     put : more u.0 u.1 [] ≡ u ∷ []
     put = rw h.0
 
-pub minus_is : (a b : Lin) → minus a b ≡ record { terms = merged (times minus_oneʳ b.terms) a.terms; rest = a.rest +ʳ (minus_oneʳ *ʳ b.rest) }
+minus_is : (a b : Lin) → minus a b ≡ record { terms = merged (times minus_oneʳ b.terms) a.terms; rest = a.rest +ʳ (minus_oneʳ *ʳ b.rest) }
 minus_is a b = sym (difference_made a b _ _ _ refl refl refl)
 
 -- ---- A comparison with a number

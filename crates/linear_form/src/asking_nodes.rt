@@ -108,7 +108,7 @@ fn compared(
 }
 
 /// Whether the operator compares two values.
-pub(crate) fn compares(operator: Operation) -> bool
+fn compares(operator: Operation) -> bool
     ensures { IsTrue result → Compares operator }
 {
     match operator {

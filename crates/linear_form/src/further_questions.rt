@@ -1,28 +1,20 @@
 //! Evaluations that surely ask a further question.
 
-ghost use Rattle.std.specs.Prelude.{◌≡◌, ◌++◌, ◌∷◌, [], Bool, List, length, IsTrue};
+ghost use Rattle.std.specs.Prelude.{◌≡◌, ◌++◌, ◌∷◌, [], List, length, IsTrue};
 ghost use Rattle.heylo_formula.specs.Goals.{Goal as PlainGoal};
 ghost use Rattle.heylo_graph.specs.declared.nodes.Node.{Node as NodeValue};
-ghost use Rattle.linear_values.specs.Kept.{IsKept, IsKeptValue};
-ghost use Rattle.linear_values.specs.Lin.{AreNormal, minus as lin_minus};
-ghost use Rattle.linear_values.specs.PlainValues.{lin_of, linear_of};
 ghost use Rattle.linear_form.specs.LastingPaths.{IsNoEnd};
 ghost use Rattle.linear_form.specs.Paths.{IsPath};
 ghost use Rattle.linear_form.specs.Places.{IsOn};
 ghost use Rattle.linear_form.specs.Query.{Query, Taken as PlainTaken};
-ghost use Rattle.linear_form.specs.Questions.{is_below};
-ghost use Rattle.linear_form.specs.internal.Evaluations.{asked_by, framed, left_at, resumed, IsKeptFocus};
-ghost use Rattle.linear_form.specs.internal.LastingTrees.{Lasts, BeginsBefore};
-ghost use Rattle.linear_form.specs.internal.NodeQuestions.{operation};
-ghost use Rattle.linear_form.specs.internal.NodeTables.{AreAsking, Compares};
+ghost use Rattle.linear_form.specs.internal.Evaluations.{asked_by, framed, left_at, resumed};
+ghost use Rattle.linear_form.specs.internal.LastingTrees.{Lasts};
+ghost use Rattle.linear_form.specs.internal.NodeTables.{AreAsking};
 ghost use Rattle.linear_form.specs.internal.Outcomes.{Result as Outcome};
-ghost use Rattle.linear_form.specs.declared.kinds.Operation.{Operation};
 
-use crate::asking_nodes::{compares, is_asking};
+use crate::asking_nodes::is_asking;
 use crate::evaluations::{Evaluation, Focus, Frame};
 use crate::places::Place;
-use heyvl_num::Frac;
-use linear_values::Lin;
 
 /// Whether the evaluation stands behind as many answers, and surely asks twice from there on: so it isn't at its end once its
 /// question is answered. It may be told no of any evaluation.
@@ -39,53 +31,20 @@ pub fn asks_on(place: &Place, count: usize) -> bool
 
 /// Whether the evaluation surely asks twice, by the table of the nodes that ask. It may be told no of any.
 fn asks_twice(table: &[bool], place: &Evaluation) -> bool
-    ensures { (ns : List NodeValue) → AreAsking ns table.now → IsTrue result → IsKeptFocus place.now.focus → Lasts 2 (left_at ns place.now) }
+    ensures { (ns : List NodeValue) → AreAsking ns table.now → IsTrue result → Lasts 2 (left_at ns place.now) }
 {
     focus_asks(table, &place.focus) && frames_ask(table, &place.frames)
 }
 
 /// Whether what is evaluated next surely asks a comparison.
 fn focus_asks(table: &[bool], focus: &Focus) -> bool
-    ensures { (ns : List NodeValue) → AreAsking ns table.now → IsTrue result → IsKeptFocus focus.now → Lasts 1 (asked_by ns focus.now) }
+    ensures { (ns : List NodeValue) → AreAsking ns table.now → IsTrue result → Lasts 1 (asked_by ns focus.now) }
 {
     match focus {
         Focus::Node(id) => is_asking(table, *id),
         Focus::Truth(_) => false,
-        Focus::Operator(operator, x, y) => compares(*operator) && values_differ(x, y),
+        Focus::Operator(_, _, _) => false,
         Focus::Ends(_, _) => false,
-    }
-}
-
-/// Whether two values surely differ in a variable, so that a comparison of them is asked.
-fn values_differ(x: &Option<Lin>, y: &Option<Lin>) -> bool
-    ensures { IsTrue result → IsKeptValue (linear_of x.now) → IsKeptValue (linear_of y.now) → (o : Operation) → Compares o → Lasts 1 (operation o (linear_of x.now) (linear_of y.now)) }
-{
-    match x {
-        None => false,
-        Some(a) => match y {
-            None => false,
-            Some(b) => first_differ(a, b),
-        },
-    }
-}
-
-/// Whether the first variables of two values differ, or only one of them has a variable.
-fn first_differ(a: &Lin, b: &Lin) -> bool
-    ensures { IsTrue result → IsKept (lin_of a.now) → IsKept (lin_of b.now) → (strict : Bool) → Lasts 1 (is_below (lin_minus (lin_of a.now) (lin_of b.now)) strict) }
-{
-    begins_before(&a.terms, &b.terms) || begins_before(&b.terms, &a.terms)
-}
-
-/// Whether the first variable of the one value comes before all of the other.
-fn begins_before(a: &[(u32, Frac)], b: &[(u32, Frac)]) -> bool
-    ensures { IsTrue result → AreNormal b.now → BeginsBefore a.now b.now }
-{
-    match a.split_first() {
-        None => false,
-        Some((s, _)) => match b.split_first() {
-            None => true,
-            Some((t, _)) => s.0 < t.0,
-        },
     }
 }
 

@@ -5,4 +5,4 @@ use Rattle.linear_form.proofs.FramesThatAsk.{left_twice}
 use Rattle.linear_form.proofs.further_questions.asks_twice.Goals as goal
 
 pub returns-then-focus_asks : goal.returns-then-focus_asks
-returns-then-focus_asks c ns t h k = left_twice ns c.args.place.now (subst (λ fs. Lasts 2 (framed ns (asked_by ns c.args.place.now.focus) fs)) c.deref.ensures.value (c.frames_ask.ensures ns t h (asked_by ns c.args.place.now.focus) (c.focus_asks.ensures ns t c.if-focus_asks.true k)))
+returns-then-focus_asks c ns t h = left_twice ns c.args.place.now (subst (λ fs. Lasts 2 (framed ns (asked_by ns c.args.place.now.focus) fs)) c.deref.ensures.value (c.frames_ask.ensures ns t h (asked_by ns c.args.place.now.focus) (c.focus_asks.ensures ns t c.if-focus_asks.true)))
