@@ -5,6 +5,8 @@ pub mod FurtherRows
 pub mod NormalPaths
 pub mod Outcomes
 pub mod NodeQuestions
+pub mod Frames
+pub mod KindQuestions
 pub mod NodeTables
 pub mod Evaluations
 pub mod NodeSteps

@@ -3,7 +3,8 @@ use Rattle.std.specs.Prelude.{◌≡◌, List}
 use Rattle.heylo_graph.specs.declared.nodes.Node.{Node}
 use Rattle.linear_form.specs.Query.{Query}
 use Rattle.linear_form.specs.internal.Outcomes.{Result}
-use Rattle.linear_form.specs.internal.Evaluations.{resumed, asked_by, through, left_at, IsKeptFocus, IsKeptFrame, AreKeptFrames}
+use Rattle.linear_form.specs.internal.Frames.{resumed, IsKeptFrame, AreKeptFrames}
+use Rattle.linear_form.specs.internal.Evaluations.{asked_by, through, left_at, IsKeptFocus}
 use Rattle.linear_form.specs.declared.evaluations.Evaluation.{Evaluation}
 use Rattle.linear_form.specs.declared.evaluations.Focus.{Focus}
 use Rattle.linear_form.specs.declared.evaluations.Frame.{Frame}

@@ -10,3 +10,8 @@ Lasts (suc k) (Query.done a) = ⊥
 Lasts (suc k) Query.bits = Unit {0}
 Lasts (suc k) (Query.ask (Atom.row a strict) y n) = Lasts k y × Lasts k n
 Lasts (suc k) (Query.ask (Atom.truth x) y n) = Lasts (suc k) y × Lasts (suc k) n
+
+-- A question that compares a linear value with 0.
+abbrev pub IsComparison : Atom → Type 0
+IsComparison (Atom.row a strict) = Unit {0}
+IsComparison (Atom.truth x) = ⊥

@@ -3,15 +3,12 @@ use Rattle.std.specs.Prelude.{◌≡◌, ℕ, true, List, slice_get, Option, Som
 use Rattle.heylo_graph.specs.declared.nodes.Node.{Node}
 use Rattle.linear_values.specs.declared.lin.Lin as L
 use Rattle.linear_values.specs.Kept.{IsKept}
-use Rattle.linear_values.specs.Lin.{Lin, minus}
 use Rattle.linear_values.specs.PlainValues.{lin_of}
 use Rattle.linear_form.specs.Query.{Query}
-use Rattle.linear_form.specs.Questions.{is_below}
 use Rattle.linear_form.specs.Query.Query.{done}
 use Rattle.linear_form.specs.internal.LastingTrees.{Lasts}
 use Rattle.linear_form.specs.internal.Outcomes.{Result}
-use Rattle.linear_form.specs.internal.NodeQuestions.{asks_at, operation}
-use Rattle.linear_form.specs.declared.kinds.Operation.{Operation}
+use Rattle.linear_form.specs.internal.NodeQuestions.{asks_at}
 
 -- The node asks nothing, and this is its value.
 pub record HasValue (ns : List Node) (i : ℕ) (a : L.Lin) : Type 0 where
@@ -35,10 +32,6 @@ pub record IsNoted (values : List (Option L.Lin)) (i : ℕ) (v : Option L.Lin) :
 -- Where yes is noted, each evaluation of the node asks a comparison.
 pub record AreAsking (ns : List Node) (table : List Bool) : Type 0 where
   pub each : (i : ℕ) → slice_get table i ≡ Some true → Lasts 1 (asks_at ns i)
-
--- The operator asks where the difference of two values is compared by a question.
-abbrev pub Compares : Operation → Type 0
-Compares o = (a b : Lin) → ((strict : Bool) → Lasts 1 (is_below (minus a b) strict)) → Lasts 1 (operation o (Some a) (Some b))
 
 -- Where there is a value, these questions are none and give it.
 abbrev pub MayHave : Query Result → Option L.Lin → Type 0

@@ -4,6 +4,7 @@ use Rattle.linear_form.specs.Query.{Query, next}
 use Rattle.linear_form.specs.Query.Query.{done, bits}
 use Rattle.linear_values.specs.Lin.{Linear}
 use Rattle.linear_form.specs.Questions.{Ends}
+use Rattle.linear_values.specs.Kept.{IsKeptValue}
 
 -- What a part comes to: a value, a truth, or the values of both forms.
 pub data Result : Type 0 where
@@ -28,3 +29,9 @@ abbrev pub of_bool : (Bool → Query Result) → Result → Query Result
 of_bool f (Result.number x) = bits
 of_bool f (Result.truth t) = f t
 of_bool f (Result.ends e) = bits
+
+-- A value has terms that grow, and small numbers.
+abbrev pub IsKeptResult : Result → Type 0
+IsKeptResult (Result.number x) = IsKeptValue x
+IsKeptResult (Result.truth t) = Unit {0}
+IsKeptResult (Result.ends e) = Unit {0}
