@@ -1,18 +1,24 @@
 //! Nodes that surely ask a comparison.
 
-ghost use Rattle.std.specs.Prelude.{◌⊎◌, List, IfOk, IsTrue};
+ghost use Rattle.std.specs.Prelude.{ℕ, List, [], IfOk, IsTrue};
 ghost use Rattle.heylo_graph.specs.declared.nodes.Node.{Node as NodeValue};
-ghost use Rattle.linear_form.specs.internal.LastingTrees.{Lasts};
-ghost use Rattle.linear_form.specs.internal.NodeQuestions.{asks_at, kind_asks};
-ghost use Rattle.linear_form.specs.internal.NodeTables.{AreValues, AreKeptValues, AreAsking, Compares};
-ghost use Rattle.linear_form.specs.declared.kinds.Operation.{Operation as PlainOperation};
-ghost use Rattle.linear_form.specs.declared.kinds.Kind.{Kind as PlainKind};
+ghost use Rattle.linear_form.specs.Query.{Query};
+ghost use Rattle.linear_form.specs.PlainPaths.{atom_of};
+ghost use Rattle.linear_form.specs.internal.LastingTrees.{Lasts, IsComparison};
+ghost use Rattle.linear_form.specs.internal.Outcomes.{Result as Outcomes};
+ghost use Rattle.linear_form.specs.internal.NodeQuestions.{asks_at};
+ghost use Rattle.linear_form.specs.internal.Frames.{branch_asks, resumed};
+ghost use Rattle.linear_form.specs.internal.KindQuestions.{kind_asks, IsKeptKind};
+ghost use Rattle.linear_form.specs.internal.NodeTables.{AreValues, AreKeptValues, AreAsking};
+ghost use Rattle.linear_form.specs.internal.NodeSteps.{Turns};
 
-use crate::kinds::{Kind, Operation, kind_of};
-use crate::plain_values::noted;
+use crate::cursor::Stop;
+use crate::evaluations::{Branch, Frame};
+use crate::kinds::{Kind, kind_of};
+use crate::paths::Atom;
+use crate::turns::{Turn, kind_turn};
 use heylo_graph::{Graph, NodeId};
 use linear_values::Lin;
-use linear_values::lin::{is_constant, minus};
 use std::alloc::{AllocError, Global};
 
 /// For each node, by its number, whether each evaluation of it surely asks a comparison. It may be told no of any.
@@ -43,95 +49,78 @@ pub(crate) fn is_asking(table: &[bool], id: NodeId) -> bool
     }
 }
 
-/// Whether a node of this kind surely asks a comparison, by the table of those before it.
+/// Whether a node of this kind surely asks a comparison, by the table of those before it: a part does, or it asks one at once.
 fn kind_is_asking(
     alloc: Global,
     kind: Kind,
     values: &[Option<Lin>],
     table: &[bool],
 ) -> Result<bool, AllocError>
-    requires { AreKeptValues values.now }
-    ensures { IfOk result (λ b. IsTrue b → (ns : List NodeValue) → AreValues ns values.now → AreAsking ns table.now → Lasts 1 (kind_asks (asks_at ns) kind)) }
+    requires values { AreKeptValues values.now }
+    requires kind { IsKeptKind kind }
+    ensures { IfOk result (λ b. IsTrue b → (ns : List NodeValue) → AreValues ns values.now → AreAsking ns table.now → Lasts 1 (kind_asks ns kind)) }
+{
+    if parts_ask(table, &kind) {
+        Ok(true)
+    } else {
+        asks_at_once(kind_turn(alloc, values, kind, &[], 0))
+    }
+}
+
+/// Whether a part of such a node surely asks a comparison, by the table.
+fn parts_ask(table: &[bool], kind: &Kind) -> bool
+    ensures { (ns : List NodeValue) → AreAsking ns table.now → IsTrue result → Lasts 1 (kind_asks ns kind.now) }
 {
     match kind {
-        Kind::Two(operator, a, b) => if either_asks(table, a, b) {
-            Ok(true)
-        } else {
-            compared(alloc, operator, values, a, b)
-        },
-        Kind::One(_, a) => Ok(is_asking(table, a)),
-        Kind::Embed(g) => Ok(is_asking(table, g)),
-        Kind::Iverson(g) => Ok(is_asking(table, g)),
-        Kind::Not(g) => Ok(is_asking(table, g)),
-        Kind::And(g, _) => Ok(is_asking(table, g)),
-        Kind::Or(g, _) => Ok(is_asking(table, g)),
-        Kind::Same(g, h) => Ok(either_asks(table, g, h)),
-        Kind::Either(g, a, b) => Ok(choice_asks(table, g, a, b)),
-        Kind::Number(_) => Ok(false),
-        Kind::Variable(_) => Ok(false),
-        Kind::Known(_) => Ok(false),
-        Kind::Flag(_) => Ok(false),
-        Kind::Binder => Ok(false),
-    }
-}
-
-/// Whether one of two nodes asks, by the table.
-fn either_asks(table: &[bool], a: NodeId, b: NodeId) -> bool
-    ensures { (ns : List NodeValue) → AreAsking ns table.now → IsTrue result → Lasts 1 (asks_at ns a) ⊎ Lasts 1 (asks_at ns b) }
-{
-    is_asking(table, a) || is_asking(table, b)
-}
-
-/// Whether a truth asks, or both nodes between which it chooses do, by the table.
-fn choice_asks(table: &[bool], g: NodeId, a: NodeId, b: NodeId) -> bool
-    ensures { (ns : List NodeValue) → AreAsking ns table.now → IsTrue result → Lasts 1 (kind_asks (asks_at ns) (PlainKind.Either g a b)) }
-{
-    is_asking(table, g) || is_asking(table, a) && is_asking(table, b)
-}
-
-/// Whether the operator compares two values that differ in a variable.
-fn compared(
-    alloc: Global,
-    operator: Operation,
-    values: &[Option<Lin>],
-    a: NodeId,
-    b: NodeId,
-) -> Result<bool, AllocError>
-    requires { AreKeptValues values.now }
-    ensures { IfOk result (λ d. IsTrue d → (ns : List NodeValue) → AreValues ns values.now → Lasts 1 (kind_asks (asks_at ns) (PlainKind.Two operator a b))) }
-{
-    if compares(operator) {
-        differ(alloc, values, a, b)
-    } else {
-        Ok(false)
-    }
-}
-
-/// Whether the operator compares two values.
-fn compares(operator: Operation) -> bool
-    ensures { IsTrue result → Compares operator }
-{
-    match operator {
-        Operation::AtMost => true,
-        Operation::Less => true,
-        Operation::Equal => true,
+        Kind::Two(_, a, b) => is_asking(table, *a) || is_asking(table, *b),
+        Kind::Part(a, frame) => is_asking(table, *a) || frame_asks(table, frame),
         _ => false,
     }
 }
 
-/// Whether two nodes have values that differ in a variable, so that a comparison of them is asked.
-fn differ(alloc: Global, values: &[Option<Lin>], a: NodeId, b: NodeId) -> Result<bool, AllocError>
-    requires { AreKeptValues values.now }
-    ensures { IfOk result (λ d. IsTrue d → (ns : List NodeValue) → AreValues ns values.now → (o : PlainOperation) → Compares o → Lasts 1 (kind_asks (asks_at ns) (PlainKind.Two o a b))) }
+/// Whether a comparison is surely asked once the frame gets the outcome that it waits for.
+pub(crate) fn frame_asks(table: &[bool], frame: &Frame) -> bool
+    ensures { (ns : List NodeValue) → AreAsking ns table.now → IsTrue result → (r : Outcomes) → Lasts 1 (resumed ns frame.now r) }
 {
-    match noted(values, a) {
-        Some(Some(x)) => match noted(values, b) {
-            Some(Some(y)) => {
-                let left = minus(alloc, x, y)?;
-                Ok(!is_constant(&left))
-            }
-            _ => Ok(false),
+    match frame {
+        Frame::First(_, b) => is_asking(table, *b),
+        Frame::Choice(yes, no) => branch_is_asking(table, *yes) && branch_is_asking(table, *no),
+        Frame::Same(h) => is_asking(table, *h),
+        Frame::Stated(id) => is_asking(table, *id),
+        _ => false,
+    }
+}
+
+/// Whether a branch surely asks a comparison.
+fn branch_is_asking(table: &[bool], branch: Branch) -> bool
+    ensures { (ns : List NodeValue) → AreAsking ns table.now → IsTrue result → Lasts 1 (branch_asks ns branch) }
+{
+    match branch {
+        Branch::Node(id) => is_asking(table, id),
+        _ => false,
+    }
+}
+
+/// Whether the turn of a part, before all answers, is a comparison that is asked.
+fn asks_at_once(turn: Result<Turn, Stop>) -> Result<bool, AllocError>
+    ensures { IfOk result (λ b. IsTrue b → (ns : List NodeValue) (q : Query Outcomes) (w : ℕ) → Turns ns [] q 0 w turn → Lasts 1 q) }
+{
+    match turn {
+        Ok(_) => Ok(false),
+        Err(stop) => match stop {
+            Stop::Decide(atom) => Ok(is_comparison(&atom)),
+            Stop::Bits => Ok(false),
+            Stop::Memory(e) => Err(e),
         },
-        _ => Ok(false),
+    }
+}
+
+/// Whether a question is a comparison.
+fn is_comparison(atom: &Atom) -> bool
+    ensures { IsTrue result → IsComparison (atom_of atom.now) }
+{
+    match atom {
+        Atom::Row(_, _) => true,
+        Atom::Truth(_) => false,
     }
 }

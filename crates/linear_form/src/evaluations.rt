@@ -1,10 +1,12 @@
 //! Evaluations of a goal that stand somewhere on a path: what is evaluated next, and what waits for it.
 
-ghost use Rattle.std.specs.Prelude.{IfOk};
+ghost use Rattle.std.specs.Prelude.{◌≡◌, IfOk};
 ghost use Rattle.linear_form.specs.internal.EvaluationCopies.{AskAlike, IsAlike, IsSameEvaluation, IsSameFocus};
+ghost use Rattle.linear_form.specs.internal.Evaluations.{outcome_of};
 
 use crate::kinds::Operation;
 use heylo_graph::NodeId;
+use heyvl_num::Frac;
 use linear_values::Lin;
 use linear_values::lin::copy_value;
 use std::alloc::{AllocError, Global};
@@ -19,13 +21,18 @@ pub(crate) struct Evaluation {
     pub at: usize,
 }
 
-/// What is evaluated next.
+/// What is evaluated next, or what the last frame gets.
 #[derive(Drop)]
 pub(crate) enum Focus {
     Node(NodeId),
+    Came(Outcome),
+}
+
+/// What a part comes to.
+#[derive(Drop)]
+pub(crate) enum Outcome {
+    Number(Option<Lin>),
     Truth(bool),
-    /// An operator, over the values of its parts; of one part over the first alone.
-    Operator(Operation, Option<Lin>, Option<Lin>),
     /// The values of both forms of the goal.
     Ends(Option<Lin>, Option<Lin>),
 }
@@ -39,23 +46,26 @@ pub(crate) enum Frame {
     Second(Operation, Option<Lin>),
     /// The only value.
     Only(Operation),
-    /// A truth that chooses a node.
-    Either(NodeId, NodeId),
-    Embed,
-    Iverson,
-    Not,
-    /// This node where the truth holds, else no.
-    And(NodeId),
-    /// Yes where the truth holds, else this node.
-    Or(NodeId),
-    /// The first truth, and then that of this node.
+    /// A value, of which this multiple is made.
+    Scaled(Frac),
+    /// A truth that chooses: the first where it holds, else the second.
+    Choice(Branch, Branch),
+    /// The first truth, and then whether that of this node is the same.
     Same(NodeId),
-    /// The second truth; this is the first one.
-    Agree(bool),
     /// The value of the stated form, and then this found one.
     Stated(NodeId),
     /// The value of the found form; this is that of the stated one.
     Found(Option<Lin>),
+}
+
+/// What a truth chooses: a node, or an outcome that is known.
+#[derive(Clone, Copy)]
+pub(crate) enum Branch {
+    Node(NodeId),
+    Truth(bool),
+    Zero,
+    One,
+    Infinity,
 }
 
 /// The same evaluation again.
@@ -76,17 +86,17 @@ fn copy_focus(alloc: Global, focus: &Focus) -> Result<Focus, AllocError>
 {
     match focus {
         Focus::Node(id) => Ok(Focus::Node(*id)),
-        Focus::Truth(t) => Ok(Focus::Truth(*t)),
-        Focus::Operator(operator, x, y) => {
-            let left = copy_value(alloc, x)?;
-            let right = copy_value(alloc, y)?;
-            Ok(Focus::Operator(*operator, left, right))
-        }
-        Focus::Ends(x, y) => {
-            let stated = copy_value(alloc, x)?;
-            let found = copy_value(alloc, y)?;
-            Ok(Focus::Ends(stated, found))
-        }
+        Focus::Came(outcome) => Ok(Focus::Came(copy_outcome(alloc, outcome)?)),
+    }
+}
+
+fn copy_outcome(alloc: Global, outcome: &Outcome) -> Result<Outcome, AllocError>
+    ensures { IfOk result (λ o. outcome_of o ≡ outcome_of outcome.now) }
+{
+    match outcome {
+        Outcome::Number(x) => Ok(Outcome::Number(copy_value(alloc, x)?)),
+        Outcome::Truth(t) => Ok(Outcome::Truth(*t)),
+        Outcome::Ends(x, y) => Ok(Outcome::Ends(copy_value(alloc, x)?, copy_value(alloc, y)?)),
     }
 }
 
@@ -97,14 +107,9 @@ fn copy_frame(alloc: Global, frame: &Frame) -> Result<Frame, AllocError>
         Frame::First(operator, b) => Ok(Frame::First(*operator, *b)),
         Frame::Second(operator, x) => Ok(Frame::Second(*operator, copy_value(alloc, x)?)),
         Frame::Only(operator) => Ok(Frame::Only(*operator)),
-        Frame::Either(a, b) => Ok(Frame::Either(*a, *b)),
-        Frame::Embed => Ok(Frame::Embed),
-        Frame::Iverson => Ok(Frame::Iverson),
-        Frame::Not => Ok(Frame::Not),
-        Frame::And(h) => Ok(Frame::And(*h)),
-        Frame::Or(h) => Ok(Frame::Or(*h)),
+        Frame::Scaled(w) => Ok(Frame::Scaled(*w)),
+        Frame::Choice(yes, no) => Ok(Frame::Choice(*yes, *no)),
         Frame::Same(h) => Ok(Frame::Same(*h)),
-        Frame::Agree(t) => Ok(Frame::Agree(*t)),
         Frame::Stated(id) => Ok(Frame::Stated(*id)),
         Frame::Found(x) => Ok(Frame::Found(copy_value(alloc, x)?)),
     }

@@ -7,12 +7,12 @@ ghost use Rattle.linear_form.specs.LastingPaths.{IsNoEnd};
 ghost use Rattle.linear_form.specs.Paths.{IsPath};
 ghost use Rattle.linear_form.specs.Places.{IsOn};
 ghost use Rattle.linear_form.specs.Query.{Query, Taken as PlainTaken};
-ghost use Rattle.linear_form.specs.internal.Evaluations.{asked_by, framed, left_at, resumed};
+ghost use Rattle.linear_form.specs.internal.Evaluations.{framed, left_at};
 ghost use Rattle.linear_form.specs.internal.LastingTrees.{Lasts};
 ghost use Rattle.linear_form.specs.internal.NodeTables.{AreAsking};
 ghost use Rattle.linear_form.specs.internal.Outcomes.{Result as Outcome};
 
-use crate::asking_nodes::is_asking;
+use crate::asking_nodes::{frame_asks, is_asking};
 use crate::evaluations::{Evaluation, Focus, Frame};
 use crate::places::Place;
 
@@ -33,18 +33,9 @@ pub fn asks_on(place: &Place, count: usize) -> bool
 fn asks_twice(table: &[bool], place: &Evaluation) -> bool
     ensures { (ns : List NodeValue) → AreAsking ns table.now → IsTrue result → Lasts 2 (left_at ns place.now) }
 {
-    focus_asks(table, &place.focus) && frames_ask(table, &place.frames)
-}
-
-/// Whether what is evaluated next surely asks a comparison.
-fn focus_asks(table: &[bool], focus: &Focus) -> bool
-    ensures { (ns : List NodeValue) → AreAsking ns table.now → IsTrue result → Lasts 1 (asked_by ns focus.now) }
-{
-    match focus {
-        Focus::Node(id) => is_asking(table, *id),
-        Focus::Truth(_) => false,
-        Focus::Operator(_, _, _) => false,
-        Focus::Ends(_, _) => false,
+    match &place.focus {
+        Focus::Node(id) => is_asking(table, *id) && frames_ask(table, &place.frames),
+        Focus::Came(_) => false,
     }
 }
 
@@ -58,25 +49,4 @@ fn frames_ask(table: &[bool], frames: &[Frame]) -> bool
         }
     }
     false
-}
-
-/// Whether a comparison is surely asked once the frame gets the outcome that it waits for.
-fn frame_asks(table: &[bool], frame: &Frame) -> bool
-    ensures { (ns : List NodeValue) → AreAsking ns table.now → IsTrue result → (r : Outcome) → Lasts 1 (resumed ns frame.now r) }
-{
-    match frame {
-        Frame::First(_, b) => is_asking(table, *b),
-        Frame::Either(a, b) => is_asking(table, *a) && is_asking(table, *b),
-        Frame::Stated(id) => is_asking(table, *id),
-        Frame::Second(_, _) => false,
-        Frame::Only(_) => false,
-        Frame::Embed => false,
-        Frame::Iverson => false,
-        Frame::Not => false,
-        Frame::And(_) => false,
-        Frame::Or(_) => false,
-        Frame::Same(_) => false,
-        Frame::Agree(_) => false,
-        Frame::Found(_) => false,
-    }
 }

@@ -30,6 +30,7 @@ mod questions;
 mod row_list_laws;
 mod signs;
 mod splits;
+mod turns;
 
 pub use claim_laws::{paths_claim_truths, paths_rows_are_met};
 pub use continuations::{begin, go_on, go_on_from};

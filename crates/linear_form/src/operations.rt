@@ -13,21 +13,15 @@ ghost use Rattle.linear_values.specs.Lin.{Linear};
 ghost use Rattle.linear_values.specs.PlainValues.{linear_of};
 
 use crate::cursor::{Found, Stop, Tested};
+use crate::evaluations::Outcome;
 use crate::kinds::Operation;
 use crate::operators::{
-    at_most, co_imply, co_validate, cut, difference, equal, imply, less, max, min, product, scale,
-    sum, validate,
+    at_most, co_imply, co_validate, cut, difference, equal, imply, less, max, min, product, sum,
+    validate,
 };
 use crate::paths::Taken;
 use linear_values::Lin;
 use std::alloc::Global;
-
-/// What a part comes to.
-#[derive(Drop)]
-pub(crate) enum Outcome {
-    Number(Option<Lin>),
-    Truth(bool),
-}
 
 /// What a part comes to, and the place where the path goes on.
 #[derive(Drop)]
@@ -82,7 +76,6 @@ pub(crate) fn operated(
         Operation::Sum => number_came(sum(alloc, x, y, path, at)),
         Operation::Difference => number_came(difference(alloc, x, y, path, at)),
         Operation::Cut => number_came(cut(alloc, x, y, path, at)),
-        Operation::Scale(w) => number_came(scale(alloc, &w, x, at)),
         Operation::Product => number_came(product(alloc, x, y, path, at)),
         Operation::Min => number_came(min(alloc, x, y, path, at)),
         Operation::Max => number_came(max(alloc, x, y, path, at)),

@@ -1,11 +1,9 @@
 //! The operators on linear values and infinity: the questions that they ask, and their results.
 
-ghost use Rattle.std.specs.Prelude.{◌≡◌, ◌&&◌, ◌||◌, ◌<◌, length, List, MatchOption, Some, None, true, if◌then◌else◌};
-ghost use Rattle.linear_values.specs.Lin.{constant as constant_lin, minus as lin_minus, scaled as lin_scaled};
-ghost use Rattle.linear_rows.specs.Numbers.{fits as number_fits};
+ghost use Rattle.std.specs.Prelude.{◌≡◌, ◌&&◌, ◌||◌, ◌<◌, length, List, Some, None, true, if◌then◌else◌};
+ghost use Rattle.linear_values.specs.Lin.{minus as lin_minus, scaled as lin_scaled};
 ghost use Rattle.heyvl_num.specs.Value.{is_zeroʳ};
 ghost use Rattle.linear_form.specs.Query.{Taken as PlainTaken};
-ghost use Rattle.linear_form.specs.Query.Query.{done};
 ghost use Rattle.linear_form.specs.Questions as tree;
 ghost use Rattle.linear_values.specs.Operator.{has_no_terms};
 ghost use Rattle.linear_form.specs.internal.Run.{along, Evaluation};
@@ -20,8 +18,8 @@ use crate::paths::{Atom, Taken};
 use heyvl_num::{Ext, Frac};
 use linear_values::Lin;
 use linear_values::lin::{constant, copy, copy_value, is_constant, is_sized, minus, plus, scaled};
-use linear_values::multiples::{small_multiple, small_product};
-use linear_values::numbers::{fits, fitting, is_negative, is_zero, signed, sum as number_sum};
+use linear_values::multiples::small_multiple;
+use linear_values::numbers::{fits, is_negative, is_zero, signed, sum as number_sum};
 use std::alloc::Global;
 
 /// Whether a linear value is at most 0 or, where strict, below 0: known without variables, else asked.
@@ -107,13 +105,15 @@ fn sized(value: Lin, at: usize) -> Result<Found, Stop>
     }
 }
 
-fn nothing(alloc: Global) -> Option<Lin>
+/// 0.
+pub(crate) fn nothing(alloc: Global) -> Option<Lin>
     ensures { linear_of result ≡ tree.zero }
 {
     Some(constant(alloc, Frac::zero()))
 }
 
-fn unit(alloc: Global) -> Option<Lin>
+/// 1.
+pub(crate) fn unit(alloc: Global) -> Option<Lin>
     ensures { linear_of result ≡ tree.one }
 {
     Some(constant(alloc, Frac::one()))
@@ -432,20 +432,6 @@ pub(crate) fn co_imply(
     }
 }
 
-/// Infinity where a condition holds, else 0.
-pub(crate) fn embed(alloc: Global, holds: bool) -> Option<Lin>
-    ensures { linear_of result ≡ (if holds then None else tree.zero) }
-{
-    if holds { None } else { nothing(alloc) }
-}
-
-/// 1 where a condition holds, else 0.
-pub(crate) fn iverson(alloc: Global, holds: bool) -> Option<Lin>
-    ensures { linear_of result ≡ (if holds then tree.one else tree.zero) }
-{
-    if holds { unit(alloc) } else { nothing(alloc) }
-}
-
 /// Infinity where the value is infinity, else 0.
 pub(crate) fn validate(alloc: Global, a: &Option<Lin>) -> Option<Lin>
     ensures { linear_of result ≡ tree.validate (linear_of a.now) }
@@ -522,36 +508,6 @@ pub(crate) fn scale(alloc: Global, w: &Frac, a: &Option<Lin>, at: usize) -> Resu
             next: at,
         }),
         Some(x) => finite_multiple(alloc, w, x, at),
-    }
-}
-
-/// The multiple of a number, or None where the multiplier is 0 or the multiple reaches 2^62.
-pub(crate) fn number_scaled(w: &Frac, x: &Frac) -> Option<Frac>
-    requires { number_fits x.now ≡ true }
-    ensures gives { MatchOption result (Unit {0}) (λ r. tree.scale w.now (Some (constant_lin x.now)) ≡ done (Some (constant_lin r))) }
-    ensures small { MatchOption result (Unit {0}) (λ r. number_fits r ≡ true) }
-{
-    if is_zero(w) {
-        None
-    } else {
-        small_product(w, x)
-    }
-}
-
-/// The sum of a value and a number, or None where the value isn't a number too, or the sum reaches 2^62.
-pub(crate) fn number_added(a: &Option<Lin>, x: &Frac) -> Option<Frac>
-    requires value { IsKeptValue (linear_of a.now) }
-    requires number { number_fits x.now ≡ true }
-    ensures gives { MatchOption result (Unit {0}) (λ r. tree.sum (linear_of a.now) (Some (constant_lin x.now)) ≡ done (Some (constant_lin r))) }
-    ensures small { MatchOption result (Unit {0}) (λ r. number_fits r ≡ true) }
-{
-    match a {
-        None => None,
-        Some(y) => if is_constant(y) {
-            fitting(number_sum(&y.rest, x))
-        } else {
-            None
-        },
     }
 }
 
