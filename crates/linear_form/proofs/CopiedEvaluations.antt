@@ -3,10 +3,15 @@ use Rattle.std.proofs.Common.{◌≡◌, ℕ, ◌+◌, ◌<◌, List, [], ◌∷
 use Rattle.std.proofs.lemmas.List.{take_more}
 use Rattle.heylo_graph.specs.declared.nodes.Node.{Node}
 use Rattle.linear_form.specs.Query.{next}
-use Rattle.linear_form.specs.internal.Evaluations.{resumed, standing, through}
-use Rattle.linear_form.specs.internal.EvaluationCopies.{AskAlike, IsAlike, IsSameEvaluation}
+use Rattle.linear_form.specs.Query.Query.{done}
+use Rattle.linear_form.specs.internal.Frames.{resumed}
+use Rattle.linear_form.specs.internal.Evaluations.{outcome_of, standing, through}
+use Rattle.linear_form.specs.internal.Outcomes.{IsKeptResult}
+use Rattle.linear_form.specs.internal.EvaluationCopies.{AskAlike, IsAlike, IsSameEvaluation, IsSameFocus}
 use Rattle.linear_form.specs.declared.evaluations.Evaluation.{Evaluation}
+use Rattle.linear_form.specs.declared.evaluations.Focus as F
 use Rattle.linear_form.specs.declared.evaluations.Frame.{Frame}
+use Rattle.linear_form.specs.declared.evaluations.Outcome.{Outcome}
 use Rattle.linear_form.proofs.NodeRuns.{through_push, kept_push, kept_pop}
 
 pub alike_start : AskAlike [] []
@@ -23,3 +28,6 @@ alike_next all i new made f g l e m a b = subst (λ z. AskAlike z made) (sym (ta
 
 pub same_standing : (ns : List Node) (p p' : Evaluation) → IsSameEvaluation p p' → standing ns p' ≡ standing ns p
 same_standing ns p p' s = λ i. record { left = s.left ns i; at = s.at i }
+
+pub came_again : (old : F.Focus) (o o' : Outcome) → old ≡ F.TheVariants.Came o → outcome_of o' ≡ outcome_of o → IsSameFocus old (F.TheVariants.Came o')
+came_again old o o' e h = subst (λ f. IsSameFocus f (F.TheVariants.Came o')) (sym e) (record { same = λ ns. ap done h; kept = λ k. subst IsKeptResult (sym h) k })

@@ -5,13 +5,12 @@ use Rattle.heylo_graph.specs.declared.nodes.Node.{Node}
 use Rattle.linear_form.specs.Query.{Query}
 use Rattle.linear_form.specs.internal.LastingTrees.{Lasts}
 use Rattle.linear_form.specs.internal.Outcomes.{Result}
-use Rattle.linear_form.specs.internal.NodeQuestions.{asks_at}
-use Rattle.linear_form.specs.internal.Evaluations.{framed, resumed, ended, asked_by, left_at}
+use Rattle.linear_form.specs.internal.Frames.{resumed}
+use Rattle.linear_form.specs.internal.Evaluations.{framed, ended, asked_by, left_at}
 use Rattle.linear_form.specs.declared.evaluations.Evaluation as V
 use Rattle.linear_form.specs.declared.evaluations.Focus.{Focus}
-use Rattle.linear_form.specs.declared.evaluations.Frame as W
 use Rattle.linear_form.specs.declared.evaluations.Frame.{Frame}
-use Rattle.linear_form.proofs.SureQuestions.{lasts_bits, lasts_first, lasts_twice}
+use Rattle.linear_form.proofs.SureQuestions.{lasts_first, lasts_twice}
 
 framed_first : (ns : List Node) (k : ℕ) (q : Query Result) (fs : List Frame) → Lasts k q → Lasts k (framed ns q fs)
 framed_first ns k q [] h = h
@@ -21,14 +20,6 @@ pub framed_twice : (ns : List Node) (q : Query Result) (fs : List Frame) (i : �
 framed_twice ns q [] i f h l e g = absurd (omega (arith, l))
 framed_twice ns q (x ∷ fs) zero f h l e g = lasts_twice (framed ns q fs) (resumed ns x) (framed_first ns 1 q fs h) (λ r. subst (λ f. Lasts 1 (resumed ns f r)) e (g r))
 framed_twice ns q (x ∷ fs) (suc i) f h l e g = lasts_first 2 (framed ns q fs) (resumed ns x) (framed_twice ns q fs i f h (omega (arith, l)) e g)
-
-pub frame_known : (ns : List Node) (f f' : Frame) → f ≡ f' → ((r : Result) → Lasts 1 (resumed ns f' r)) → (r : Result) → Lasts 1 (resumed ns f r)
-frame_known ns f f' e h r = subst (λ f. Lasts 1 (resumed ns f r)) (sym e) (h r)
-
-pub stated_follows : (ns : List Node) (i : ℕ) → Lasts 1 (asks_at ns i) → (r : Result) → Lasts 1 (resumed ns (W.TheVariants.Stated i) r)
-stated_follows ns i h (Result.number x) = lasts_first 1 (asks_at ns i) _ h
-stated_follows ns i h (Result.truth t) = lasts_bits Result 1
-stated_follows ns i h (Result.ends e) = lasts_bits Result 1
 
 pub focus_known : (ns : List Node) (f f' : Focus) → f ≡ f' → Lasts 1 (asked_by ns f') → Lasts 1 (asked_by ns f)
 focus_known ns f f' e h = subst (λ f. Lasts 1 (asked_by ns f)) (sym e) h

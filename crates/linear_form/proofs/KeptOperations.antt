@@ -1,31 +1,24 @@
 -- The operators of nodes, and the linear values that they keep as the program does.
-use Rattle.std.proofs.Common.{◌≡◌, ℕ, List, refl, sym, subst}
+use Rattle.std.proofs.Common.{◌≡◌, ℕ, List, sym, subst}
 use Rattle.std.specs.Prelude as M
-use Rattle.std.specs.Prelude.{Bool, true, false, None, Ok, Err, IfOk, if◌then◌else◌}
-use mathlib.Core.Bool.{beq}
-use Rattle.heylo_formula.specs.Operators.{agree}
+use Rattle.std.specs.Prelude.{Bool, Ok, Err, IfOk}
+use Rattle.heyvl_num.specs.Rational.{Rational}
 use Rattle.linear_values.specs.Lin.{Linear}
 use Rattle.linear_values.specs.Kept.{IsKeptValue}
 use Rattle.linear_form.specs.Query.{Query, Taken}
 use Rattle.linear_form.specs.Questions as q
 use Rattle.linear_form.specs.QuestionLaws.{EachResult}
 use Rattle.linear_form.specs.internal.Run.{along}
-use Rattle.linear_form.specs.internal.Outcomes.{Result, valued, told}
+use Rattle.linear_form.specs.internal.Outcomes.{Result, IsKeptResult, valued, told}
 use Rattle.linear_form.specs.internal.NodeQuestions.{operation}
-use Rattle.linear_form.specs.internal.NodeSteps.{Comes, IsKeptOutcome, outcome_of}
+use Rattle.linear_form.specs.internal.Evaluations.{IsKeptOutcome, outcome_of}
+use Rattle.linear_form.specs.internal.NodeSteps.{Comes}
 use Rattle.linear_form.specs.declared.kinds.Operation.{Operation}
-use Rattle.linear_form.specs.declared.operations.Outcome as O
 use Rattle.linear_form.specs.declared.operations.Came.{Came}
 use Rattle.linear_form.specs.declared.cursor.Stop.{Stop}
 use Rattle.linear_form.proofs.EachResults.{each_next, each_after}
 use Rattle.linear_form.proofs.Runs.{run_result}
-use Rattle.linear_form.proofs.KeptValues.{zero_kept, one_kept, sum_kept, difference_kept, cut_kept, scale_kept, product_kept, min_kept, max_kept, imply_kept, co_imply_kept, validate_kept, co_validate_kept}
-
--- a value that is kept, or no value
-abbrev pub IsKeptResult : Result → Type 0
-IsKeptResult (Result.number x) = IsKeptValue x
-IsKeptResult (Result.truth t) = Unit {0}
-IsKeptResult (Result.ends e) = Unit {0}
+use Rattle.linear_form.proofs.KeptValues.{sum_kept, difference_kept, cut_kept, scale_kept, product_kept, min_kept, max_kept, imply_kept, co_imply_kept, validate_kept, co_validate_kept}
 
 pub valued_kept : (t : Query Linear) → EachResult IsKeptValue t → EachResult IsKeptResult (valued t)
 valued_kept t h = each_next t _ IsKeptValue IsKeptResult h (λ x k. k)
@@ -37,7 +30,6 @@ pub operation_kept : (o : Operation) (x y : Linear) → IsKeptValue x → IsKept
 operation_kept Operation.Sum x y h k = valued_kept (q.sum x y) (sum_kept x y h k)
 operation_kept Operation.Difference x y h k = valued_kept (q.difference x y) (difference_kept x y h k)
 operation_kept Operation.Cut x y h k = valued_kept (q.cut x y) (cut_kept x y h k)
-operation_kept (Operation.Scale w) x y h k = valued_kept (q.scale w x) (scale_kept w x h)
 operation_kept Operation.Product x y h k = valued_kept (q.product x y) (product_kept x y h k)
 operation_kept Operation.Min x y h k = valued_kept (q.min x y) (min_kept x y h k)
 operation_kept Operation.Max x y h k = valued_kept (q.max x y) (max_kept x y h k)
@@ -49,29 +41,14 @@ operation_kept Operation.AtMost x y h k = told_kept (q.at_most x y)
 operation_kept Operation.Less x y h k = told_kept (q.less x y)
 operation_kept Operation.Equal x y h k = told_kept (q.equal x y)
 
-kept_outcome : (o : O.Outcome) → IsKeptResult (outcome_of o) → IsKeptOutcome o
-kept_outcome (O.TheVariants.Number x) h = h
-kept_outcome (O.TheVariants.Truth t) h = tt
-
 -- what comes of kept values is kept
 pub came_kept : (r : M.Result Came Stop) (t : Query Result) (ps : List Taken) (i : ℕ) → EachResult IsKeptResult t → Comes r (along ps t i) → IfOk r (λ c. IsKeptOutcome c.outcome)
-came_kept (Ok c) t ps i h g = kept_outcome c.outcome (run_result ps t IsKeptResult i (outcome_of c.outcome) c.next h g)
+came_kept (Ok c) t ps i h g = run_result ps t IsKeptResult i (outcome_of c.outcome) c.next h g
 came_kept (Err e) t ps i h g = tt
 
 -- an operator that is known
 pub operator_arm : (r : M.Result Came Stop) (ps : List Taken) (o o' : Operation) (x y : Linear) (i : ℕ) → o ≡ o' → Comes r (along ps (operation o' x y) i) → Comes r (along ps (operation o x y) i)
 operator_arm r ps o o' x y i e h = subst (λ o. Comes r (along ps (operation o x y) i)) (sym e) h
 
-pub embed_kept : (t : Bool) → IsKeptValue (if t then None else q.zero)
-embed_kept true = tt
-embed_kept false = zero_kept
-
-pub iverson_kept : (t : Bool) → IsKeptValue (if t then q.one else q.zero)
-iverson_kept true = one_kept
-iverson_kept false = zero_kept
-
-pub agree_is : (t u : Bool) → agree t u ≡ beq t u
-agree_is true true = refl
-agree_is true false = refl
-agree_is false true = refl
-agree_is false false = refl
+pub scaled_kept : (w : Rational) (x : Linear) → IsKeptValue x → EachResult IsKeptResult (valued (q.scale w x))
+scaled_kept w x h = valued_kept (q.scale w x) (scale_kept w x h)

@@ -11,7 +11,6 @@ pub mod AgreedEnds
 mod MetClaims
 mod NormalClaims
 pub mod TypedTrees
-mod NumberRuns
 pub mod NumericRows
 pub mod DeniedRows
 mod DeniedGoalPlaces
@@ -45,7 +44,7 @@ mod KindsOfNodes
 mod KeptOperations
 mod NodeRuns
 mod NodeFrames
-mod NodeNumbers
+mod FrameTurns
 mod EnteredNodes
 mod NotedValues
 mod NodesThatAsk

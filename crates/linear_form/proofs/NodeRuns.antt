@@ -1,7 +1,5 @@
 -- Evaluations over a graph that go on from a place, step by step.
-use Rattle.std.proofs.Common.{◌≡◌, ℕ, ◌+◌, ◌<◌, ◌≤◌, List, [], ◌∷◌, ◌++◌, refl, sym, ap, ◌∙◌, subst, arith, Box, Global}
-use Rattle.std.specs.Prelude as M
-use Rattle.std.specs.Prelude.{Ok, Err, IfOk}
+use Rattle.std.proofs.Common.{◌≡◌, ℕ, ◌+◌, ◌<◌, List, [], ◌∷◌, ◌++◌, refl, sym, ap, ◌∙◌, subst, arith}
 use Rattle.heylo_graph.specs.declared.nodes.Node.{Node}
 use Rattle.heylo_formula.specs.Goals.{Goal}
 use Rattle.linear_form.specs.Query.{Query, Atom, Taken, next}
@@ -9,28 +7,20 @@ use Rattle.linear_form.specs.Query.Query.{done}
 use Rattle.linear_form.specs.Questions.{Ends}
 use Rattle.linear_form.specs.Paths.{IsPath}
 use Rattle.linear_form.specs.Places.{IsOn}
-use Rattle.linear_form.specs.PlainPaths.{atom_of}
 use Rattle.linear_form.specs.internal.Run.{Evaluation, along}
 use Rattle.linear_form.specs.internal.Run.Evaluation.{value, decide}
 use Rattle.linear_form.specs.internal.Outcomes.{Result}
-use Rattle.linear_form.specs.internal.Evaluations.{resumed, asked_by, framed, ended, through, left_at, standing, weight, focus_weight, frames_weight, frame_weight, IsKeptFocus, IsKeptFrame, AreKeptFrames, IsKeptEvaluation}
+use Rattle.linear_form.specs.internal.Frames.{resumed, frames_weight, frame_weight, IsKeptFrame, AreKeptFrames}
+use Rattle.linear_form.specs.internal.Evaluations.{asked_by, framed, ended, through, left_at, standing, weight, focus_weight, IsKeptFocus, IsKeptEvaluation}
 use Rattle.linear_form.specs.internal.NodeSteps.{Moves, Steps}
 use Rattle.linear_form.specs.declared.evaluations.Evaluation as V
 use Rattle.linear_form.specs.declared.evaluations.Frame.{Frame}
 use Rattle.linear_form.specs.declared.node_steps.Step as S
-use Rattle.linear_form.specs.declared.paths.Atom as A
 use Rattle.linear_form.proofs.AssembledTrees.{next_assoc}
 use Rattle.linear_form.proofs.PathEnds.{found_on, next_done}
-use Rattle.linear_form.proofs.Runs.{run_same, run_decide, run_large}
+use Rattle.linear_form.proofs.Runs.{run_decide, run_large}
 
 -- ---- Frames
-
-framed_run : (ns : List Node) (ps : List Taken) (q q' : Query Result) (fs : List Frame) (i j : ℕ) → along ps q i ≡ along ps q' j → along ps (framed ns q fs) i ≡ along ps (framed ns q' fs) j
-framed_run ns ps q q' [] i j e = e
-framed_run ns ps q q' (f ∷ fs) i j e = run_same ps (framed ns q fs) (framed ns q' fs) (resumed ns f) i j (framed_run ns ps q q' fs i j e)
-
-pub through_run : (ns : List Node) (ps : List Taken) (q q' : Query Result) (fs : List Frame) (i j : ℕ) → along ps q i ≡ along ps q' j → along ps (through ns q fs) i ≡ along ps (through ns q' fs) j
-through_run ns ps q q' fs i j e = run_same ps (framed ns q fs) (framed ns q' fs) ended i j (framed_run ns ps q q' fs i j e)
 
 -- all that is left is what follows the part
 framed_next : (ns : List Node) (q : Query Result) (fs : List Frame) → framed ns q fs ≡ next q (λ x. framed ns (done x) fs)
@@ -87,34 +77,12 @@ stays ns ps q i w p e a l h k = (
 )
 
 -- a step from what is found on the path
-composed : (ns : List Node) (ps : List Taken) (t : Query Result) (fs : List Frame) (i j : ℕ) (x : Result) (p : V.Evaluation) → along ps t i ≡ value x j → Moves ns ps (through ns (done x) fs) j p → Moves ns ps (through ns t fs) i p
+pub composed : (ns : List Node) (ps : List Taken) (t : Query Result) (fs : List Frame) (i j : ℕ) (x : Result) (p : V.Evaluation) → along ps t i ≡ value x j → Moves ns ps (through ns (done x) fs) j p → Moves ns ps (through ns t fs) i p
 composed ns ps t fs i j x p e m = record {
   on = λ g path o. m.on g path (found_on g ps t (λ x. through ns (done x) fs) i j x path e (subst (λ q. IsOn g ps (record { left = q; at = i })) (through_next ns t fs) o));
   kept_focus = m.kept_focus;
   kept_frames = m.kept_frames;
 }
-
-step_after : (ns : List Node) (s : S.Step) (ps : List Taken) (t : Query Result) (fs : List Frame) (i j w : ℕ) (x : Result) (p : V.Evaluation) → along ps t i ≡ value x j → frames_weight ns fs < w → Steps ns ps (through ns (done x) fs) j (frames_weight ns fs) p s → Steps ns ps (through ns t fs) i w p s
-unfolding along
-step_after ns S.TheVariants.On ps t fs i j w x p e l h = (composed ns ps t fs i j x p e h.0, let k = h.1 in omega (arith, k, l))
-step_after ns (S.TheVariants.Asks a) ps t fs i j w x p e l h = (through_run ns ps t (done x) fs i j e ∙ h.0, composed ns ps t fs i j x p e h.1)
-step_after ns (S.TheVariants.Ends y z) ps t fs i j w x p e l h = ((h.0.0, through_run ns ps t (done x) fs i j e ∙ h.0.1), composed ns ps t fs i j x p e h.1)
-step_after ns S.TheVariants.Bits ps t fs i j w x p e l h = through_run ns ps t (done x) fs i j e ∙ h
-
-pub after_found : {E : Type 0} (ns : List Node) (r : M.Result S.Step E) (ps : List Taken) (t : Query Result) (fs : List Frame) (i j w : ℕ) (x : Result) (p : V.Evaluation) → along ps t i ≡ value x j → frames_weight ns fs < w → IfOk r (Steps ns ps (through ns (done x) fs) j (frames_weight ns fs) p) → IfOk r (Steps ns ps (through ns t fs) i w p)
-after_found ns (Ok s) ps t fs i j w x p e l h = step_after ns s ps t fs i j w x p e l h
-after_found ns (Err m) ps t fs i j w x p e l h = h
-
--- a step with more to do at first
-wider : (ns : List Node) (s : S.Step) (ps : List Taken) (q : Query Ends) (i v w : ℕ) (p : V.Evaluation) → v ≤ w → Steps ns ps q i v p s → Steps ns ps q i w p s
-wider ns S.TheVariants.On ps q i v w p l h = (h.0, let k = h.1 in omega (arith, k, l))
-wider ns (S.TheVariants.Asks a) ps q i v w p l h = h
-wider ns (S.TheVariants.Ends y z) ps q i v w p l h = h
-wider ns S.TheVariants.Bits ps q i v w p l h = h
-
-pub with_more : {E : Type 0} (ns : List Node) (r : M.Result S.Step E) (ps : List Taken) (q : Query Ends) (i v w : ℕ) (p : V.Evaluation) → v ≤ w → IfOk r (Steps ns ps q i v p) → IfOk r (Steps ns ps q i w p)
-with_more ns (Ok s) ps q i v w p l h = wider ns s ps q i v w p l h
-with_more ns (Err m) ps q i v w p l h = h
 
 -- the place itself
 pub here : (ns : List Node) (ps : List Taken) (p : V.Evaluation) → IsKeptFocus p.focus → AreKeptFrames p.frames.items → Moves ns ps (left_at ns p) p.at p
@@ -126,7 +94,3 @@ moved ns g ps p p' path h m = (m.on g path h, (m.kept_focus, m.kept_frames))
 -- a frame waits for the outcome of the focus
 pub pushed : (ns : List Node) (ps : List Taken) (fs : List Frame) (f : Frame) (i w : ℕ) (p : V.Evaluation) → p.frames.items ≡ fs ++ (f ∷ []) → p.at ≡ i → focus_weight ns p.focus + frame_weight ns f + frames_weight ns fs < w → IsKeptFocus p.focus → IsKeptFrame f → AreKeptFrames fs → Steps ns ps (through ns (next (asked_by ns p.focus) (resumed ns f)) fs) i w p S.TheVariants.On
 pushed ns ps fs f i w p e a l h k m = stays ns ps _ i w p (sym (ap (through ns (asked_by ns p.focus)) e ∙ through_push ns (asked_by ns p.focus) fs f)) a (let n : frames_weight ns p.frames.items ≡ frame_weight ns f + frames_weight ns fs = ap (frames_weight ns) e ∙ weight_push ns fs f in omega (arith, n, l)) h (subst AreKeptFrames (sym e) (kept_push fs f m k))
-
--- where the evaluation stops, it stays
-pub decides : (ns : List Node) (ps : List Taken) (w : ℕ) (a : Box A.Atom Global) (p : V.Evaluation) → along ps (asked_by ns p.focus) p.at ≡ decide (atom_of a.value) → IsKeptFocus p.focus → AreKeptFrames p.frames.items → Steps ns ps (left_at ns p) p.at w p (S.TheVariants.Asks a)
-decides ns ps w a p e h k = (through_decide ns ps (asked_by ns p.focus) p.frames.items p.at (atom_of a.value) e, here ns ps p h k)

@@ -1,92 +1,77 @@
 -- Nodes that surely ask a comparison, by what they do and by what their parts ask.
-use Rattle.std.proofs.Common.{◌≡◌, ℕ, List, [], ◌∷◌, ◌++◌, refl, sym, ap, ◌∙◌, subst, ◌⊎◌, inl, inr, length, get_or, ◌<◌, Bool, true, false, cond, not}
-use Rattle.std.specs.Prelude.{Option, Some, slice_get}
+use Rattle.std.proofs.Common.{◌≡◌, ℕ, List, [], ◌∷◌, ◌++◌, refl, sym, ap, ◌∙◌, subst, ◌⊎◌, inl, inr, length, get_or, ◌<◌, Bool, true}
+use Rattle.std.specs.Prelude.{Some, slice_get}
 use Rattle.std.proofs.lemmas.Option.{slice_get_read}
 use Rattle.heylo_graph.specs.declared.nodes.Node.{Node}
-use Rattle.linear_values.specs.Lin.{Lin, Terms, minus, is_sized}
-use Rattle.linear_values.specs.Operator.{has_no_terms}
-use Rattle.linear_values.specs.PlainValues.{lin_of}
-use Rattle.linear_values.specs.declared.lin.Lin as L
-use Rattle.heylo_formula.specs.Operators.{agree}
-use Rattle.linear_form.specs.Query.{next}
-use Rattle.linear_form.specs.Query.Query.{done, bits}
-use Rattle.linear_form.specs.Questions as q
-use Rattle.linear_form.specs.Questions.{asked, is_below}
-use Rattle.linear_form.specs.internal.LastingTrees.{Lasts}
-use Rattle.linear_form.specs.internal.Outcomes.{Result, of_bool}
-use Rattle.linear_form.specs.internal.NodeQuestions.{asks_at, kind_asks, with_second, either}
-use Rattle.linear_form.specs.internal.NodeTables.{AreValues, AreAsking, IsNoted, Compares}
-use Rattle.linear_form.specs.declared.kinds.Operation.{Operation}
+use Rattle.linear_form.specs.Query.{Query, Atom}
+use Rattle.linear_form.specs.Query.Query.{done, bits, ask}
+use Rattle.linear_form.specs.internal.LastingTrees.{Lasts, IsComparison}
+use Rattle.linear_form.specs.internal.Outcomes.{Result}
+use Rattle.linear_form.specs.internal.NodeQuestions.{asks_at}
+use Rattle.linear_form.specs.internal.Frames.{branch_asks, resumed}
+use Rattle.linear_form.specs.internal.KindQuestions.{kind_asks}
+use Rattle.linear_form.specs.internal.NodeTables.{AreAsking}
+use Rattle.linear_form.specs.internal.Run.{along}
+use Rattle.linear_form.specs.internal.Run.Evaluation.{decide}
+use Rattle.linear_form.specs.declared.evaluations.Branch.{Branch}
+use Rattle.linear_form.specs.declared.evaluations.Frame as W
+use Rattle.linear_form.specs.declared.evaluations.Frame.{Frame}
 use Rattle.linear_form.specs.declared.kinds.Kind.{Kind}
+use Rattle.linear_form.specs.declared.kinds.Kind as K
+use Rattle.linear_form.specs.declared.kinds.Operation.{Operation}
 use Rattle.linear_form.proofs.SureQuestions.{lasts_bits, lasts_first, lasts_later, chosen_lasts}
-use Rattle.linear_form.proofs.NotedValues.{get_more, two_given}
+use Rattle.linear_form.proofs.NotedValues.{get_more}
 
--- ---- Values that differ in a variable
+-- ---- What is asked at once
 
-some_terms : (ts : Terms) (a : Lin) (strict : Bool) → has_no_terms ts ≡ false → Lasts 1 (asked ts a strict)
-unfolding Lasts
-some_terms [] a strict h = absurd (cc)
-some_terms (t ∷ ts) a strict h = (tt, tt)
-
-pub below_asks : (a : Lin) (strict : Bool) → has_no_terms a.terms ≡ false → Lasts 1 (is_below a strict)
-below_asks a strict h = go (is_sized a)
-  where
-    go : (c : Bool) → Lasts 1 (cond c (asked a.terms a strict) bits)
-    go true = some_terms a.terms a strict h
-    go false = lasts_bits Bool 1
-
-pub at_most_asks : Compares Operation.AtMost
-at_most_asks a b h = lasts_first 1 (is_below (minus a b) false) _ (h false)
-
-pub less_asks : Compares Operation.Less
-less_asks a b h = lasts_first 1 (is_below (minus a b) true) _ (h true)
-
-pub equal_asks : Compares Operation.Equal
-equal_asks a b h = lasts_first 1 (q.equal (Some a) (Some b)) _ (lasts_first 1 (is_below (minus a b) false) _ (h false))
-
-values_ask : (ns : List Node) (vs : List (Option L.Lin)) (a b : ℕ) (x y : L.Lin) (d : Lin) (o : Operation) → AreValues ns vs → IsNoted vs a (Some x) → IsNoted vs b (Some y) → d ≡ minus (lin_of x) (lin_of y) → has_no_terms d.terms ≡ false → Compares o → Lasts 1 (kind_asks (asks_at ns) (Kind.Two o a b))
-values_ask ns vs a b x y d o v h k e n c = subst (Lasts 1) (sym (two_given ns vs o a b (Some x) (Some y) v h k)) (c (lin_of x) (lin_of y) (λ strict. below_asks (minus (lin_of x) (lin_of y)) strict (sym (ap (λ d. has_no_terms d.terms) e) ∙ n)))
-
-untrue : (b : Bool) → not b ≡ true → b ≡ false
-untrue true e = absurd (cc)
-untrue false e = refl
-
-pub noted_ask : (vs : List (Option L.Lin)) (a b : ℕ) (x y : L.Lin) (d : Lin) (c : Bool) → IsNoted vs a (Some x) → IsNoted vs b (Some y) → d ≡ minus (lin_of x) (lin_of y) → c ≡ has_no_terms d.terms → not c ≡ true → (ns : List Node) → AreValues ns vs → (o : Operation) → Compares o → Lasts 1 (kind_asks (asks_at ns) (Kind.Two o a b))
-noted_ask vs a b x y d c h k e n t ns v o g = values_ask ns vs a b x y d o v h k e (sym n ∙ untrue c t) g
+-- a tree whose first question, before all answers, is a comparison
+pub first_asks : (q : Query Result) (a : Atom) → along [] q 0 ≡ decide a → IsComparison a → Lasts 1 q
+unfolding along Lasts
+first_asks (done r) a e h = absurd (cc)
+first_asks bits a e h = tt
+first_asks (ask (Atom.row l strict) y n) a e h = (tt, tt)
+first_asks (ask (Atom.truth x) y n) (Atom.row l strict) e h = absurd (cc)
+first_asks (ask (Atom.truth x) y n) (Atom.truth z) e h = absurd h
 
 -- ---- Parts that ask
 
-pub kind_asking : (ns : List Node) (k k' : Kind) → k ≡ k' → Lasts 1 (kind_asks (asks_at ns) k') → Lasts 1 (kind_asks (asks_at ns) k)
-kind_asking ns k k' e h = subst (λ k. Lasts 1 (kind_asks (asks_at ns) k)) (sym e) h
+pub kind_asking : (ns : List Node) (k k' : Kind) → k ≡ k' → Lasts 1 (kind_asks ns k') → Lasts 1 (kind_asks ns k)
+kind_asking ns k k' e h = subst (λ k. Lasts 1 (kind_asks ns k)) (sym e) h
 
-pub second_follows : (ns : List Node) (o : Operation) (b : ℕ) → Lasts 1 (asks_at ns b) → (r : Result) → Lasts 1 (with_second o (asks_at ns b) r)
-second_follows ns o b h (Result.number x) = lasts_first 1 (asks_at ns b) _ h
-second_follows ns o b h (Result.truth t) = lasts_bits Result 1
-second_follows ns o b h (Result.ends e) = lasts_bits Result 1
+pub frame_known : (ns : List Node) (f f' : Frame) → f ≡ f' → ((r : Result) → Lasts 1 (resumed ns f' r)) → (r : Result) → Lasts 1 (resumed ns f r)
+frame_known ns f f' e h r = subst (λ f. Lasts 1 (resumed ns f r)) (sym e) (h r)
 
-same_asks : (ns : List Node) (g h : ℕ) → Lasts 1 (asks_at ns h) → Lasts 1 (kind_asks (asks_at ns) (Kind.Same g h))
-same_asks ns g h k = lasts_later 1 (asks_at ns g) _ go
-  where
-    go : (r : Result) → Lasts 1 (of_bool (λ t. next (asks_at ns h) (of_bool (λ u. done (Result.truth (agree t u))))) r)
-    go (Result.number x) = lasts_bits Result 1
-    go (Result.truth t) = lasts_first 1 (asks_at ns h) _ k
-    go (Result.ends e) = lasts_bits Result 1
+pub first_follows : (ns : List Node) (o : Operation) (b : ℕ) → Lasts 1 (asks_at ns b) → (r : Result) → Lasts 1 (resumed ns (W.TheVariants.First o b) r)
+first_follows ns o b h (Result.number x) = lasts_first 1 (asks_at ns b) _ h
+first_follows ns o b h (Result.truth t) = lasts_bits Result 1
+first_follows ns o b h (Result.ends e) = lasts_bits Result 1
 
-pub two_ask : (ns : List Node) (o : Operation) (a b : ℕ) → Lasts 1 (asks_at ns a) ⊎ Lasts 1 (asks_at ns b) → Lasts 1 (kind_asks (asks_at ns) (Kind.Two o a b))
-two_ask ns o a b (inl h) = lasts_first 1 (asks_at ns a) _ h
-two_ask ns o a b (inr h) = lasts_later 1 (asks_at ns a) (with_second o (asks_at ns b)) (second_follows ns o b h)
+pub choice_follows : (ns : List Node) (y n : Branch) → Lasts 1 (branch_asks ns y) → Lasts 1 (branch_asks ns n) → (r : Result) → Lasts 1 (resumed ns (W.TheVariants.Choice y n) r)
+choice_follows ns y n h k (Result.number x) = lasts_bits Result 1
+choice_follows ns y n h k (Result.truth t) = chosen_lasts 1 t (branch_asks ns y) (branch_asks ns n) h k
+choice_follows ns y n h k (Result.ends e) = lasts_bits Result 1
 
-pub same_ask : (ns : List Node) (g h : ℕ) → Lasts 1 (asks_at ns g) ⊎ Lasts 1 (asks_at ns h) → Lasts 1 (kind_asks (asks_at ns) (Kind.Same g h))
-same_ask ns g h (inl k) = lasts_first 1 (asks_at ns g) _ k
-same_ask ns g h (inr k) = same_asks ns g h k
+pub same_follows : (ns : List Node) (g : ℕ) → Lasts 1 (asks_at ns g) → (r : Result) → Lasts 1 (resumed ns (W.TheVariants.Same g) r)
+same_follows ns g h (Result.number x) = lasts_bits Result 1
+same_follows ns g h (Result.truth t) = lasts_first 1 (asks_at ns g) _ h
+same_follows ns g h (Result.ends e) = lasts_bits Result 1
 
-pub either_follows : (ns : List Node) (a b : ℕ) → Lasts 1 (asks_at ns a) → Lasts 1 (asks_at ns b) → (r : Result) → Lasts 1 (either (asks_at ns a) (asks_at ns b) r)
-either_follows ns a b h k (Result.number x) = lasts_bits Result 1
-either_follows ns a b h k (Result.truth t) = chosen_lasts 1 t (asks_at ns a) (asks_at ns b) h k
-either_follows ns a b h k (Result.ends e) = lasts_bits Result 1
+pub stated_follows : (ns : List Node) (i : ℕ) → Lasts 1 (asks_at ns i) → (r : Result) → Lasts 1 (resumed ns (W.TheVariants.Stated i) r)
+stated_follows ns i h (Result.number x) = lasts_first 1 (asks_at ns i) _ h
+stated_follows ns i h (Result.truth t) = lasts_bits Result 1
+stated_follows ns i h (Result.ends e) = lasts_bits Result 1
 
-pub both_ask : (ns : List Node) (g a b : ℕ) → Lasts 1 (asks_at ns a) → Lasts 1 (asks_at ns b) → Lasts 1 (kind_asks (asks_at ns) (Kind.Either g a b))
-both_ask ns g a b h k = lasts_later 1 (asks_at ns g) (either (asks_at ns a) (asks_at ns b)) (either_follows ns a b h k)
+pub part_asks : (ns : List Node) (k : Kind) (a : ℕ) (f : Frame) → k ≡ K.TheVariants.Part a f → Lasts 1 (asks_at ns a) → Lasts 1 (kind_asks ns k)
+part_asks ns k a f e h = kind_asking ns k _ e (lasts_first 1 (asks_at ns a) (resumed ns f) h)
+
+pub two_asks : (ns : List Node) (k : Kind) (o : Operation) (a b : ℕ) → k ≡ K.TheVariants.Two o a b → Lasts 1 (asks_at ns a) → Lasts 1 (kind_asks ns k)
+two_asks ns k o a b e h = kind_asking ns k _ e (lasts_first 1 (asks_at ns a) (resumed ns (W.TheVariants.First o b)) h)
+
+pub two_follows : (ns : List Node) (k : Kind) (o : Operation) (a b : ℕ) → k ≡ K.TheVariants.Two o a b → Lasts 1 (asks_at ns b) → Lasts 1 (kind_asks ns k)
+two_follows ns k o a b e h = kind_asking ns k _ e (lasts_later 1 (asks_at ns a) (resumed ns (W.TheVariants.First o b)) (first_follows ns o b h))
+
+pub frame_follows : (ns : List Node) (k : Kind) (a : ℕ) (f : Frame) → k ≡ K.TheVariants.Part a f → ((r : Result) → Lasts 1 (resumed ns f r)) → Lasts 1 (kind_asks ns k)
+frame_follows ns k a f e h = kind_asking ns k _ e (lasts_later 1 (asks_at ns a) (resumed ns f) h)
 
 -- ---- The table
 
@@ -99,7 +84,7 @@ asking_entry ns table i j b e l g h t = asking_at ns table i b h (subst (λ k. s
 pub none_asks : (ns : List Node) → AreAsking ns []
 none_asks ns = record { each = λ i h. absurd (cc) }
 
-pub asking_more : (ns : List Node) (table new : List Bool) (b : Bool) (k : Kind) → new ≡ table ++ (b ∷ []) → asks_at ns (length table) ≡ kind_asks (asks_at ns) k → AreAsking ns table → (b ≡ true → Lasts 1 (kind_asks (asks_at ns) k)) → AreAsking ns new
+pub asking_more : (ns : List Node) (table new : List Bool) (b : Bool) (k : Kind) → new ≡ table ++ (b ∷ []) → asks_at ns (length table) ≡ kind_asks ns k → AreAsking ns table → (b ≡ true → Lasts 1 (kind_asks ns k)) → AreAsking ns new
 asking_more ns table new b k n e h m = subst (AreAsking ns) (sym n) (record { each = λ i g. go i (get_more table b true i g) })
   where
     go : (i : ℕ) → (slice_get table i ≡ Some true) ⊎ ((i ≡ length table) × (b ≡ true)) → Lasts 1 (asks_at ns i)

@@ -1,11 +1,9 @@
 -- Values that are noted of nodes.
 use Rattle.std.proofs.Common.{◌≡◌, ℕ, ◌+◌, List, [], ◌∷◌, ◌++◌, refl, sym, ap, ap₂, ◌∙◌, subst, ◌⊎◌, inl, inr, length, length-append, get_or, ◌<◌, arith}
-use Rattle.std.specs.Prelude as R
-use Rattle.std.specs.Prelude.{Option, Some, None, Ok, Err, IfOk, slice_get}
+use Rattle.std.specs.Prelude.{Option, Some, None, slice_get}
 use Rattle.std.proofs.lemmas.Option.{slice_get_read}
 use Prim.Native.Nat.{zero, suc}
 use Rattle.heylo_graph.specs.declared.nodes.Node.{Node}
-use Rattle.linear_values.specs.Lin.{variable}
 use Rattle.linear_values.specs.Kept.{IsKept, IsKeptValue}
 use Rattle.linear_values.specs.PlainValues.{lin_of, linear_of}
 use Rattle.linear_values.specs.declared.lin.Lin as L
@@ -13,14 +11,17 @@ use Rattle.linear_form.specs.Query.{Query, Atom, next}
 use Rattle.linear_form.specs.Query.Query.{done, bits, ask}
 use Rattle.linear_form.specs.internal.Run.{along}
 use Rattle.linear_form.specs.internal.Run.Evaluation.{value}
-use Rattle.linear_form.specs.internal.Outcomes.{Result}
-use Rattle.linear_form.specs.internal.NodeSteps.{IsKeptOutcome, outcome_of}
-use Rattle.linear_form.specs.declared.operations.Outcome as O
-use Rattle.linear_form.specs.internal.NodeQuestions.{asks_at, kind_asks, operation, with_second, alone}
+use Rattle.linear_form.specs.internal.Outcomes.{Result, of_number}
+use Rattle.linear_form.specs.internal.Evaluations.{IsKeptOutcome, outcome_of}
+use Rattle.linear_form.specs.internal.NodeQuestions.{asks_at, operation}
+use Rattle.linear_form.specs.internal.Frames.{resumed}
+use Rattle.linear_form.specs.internal.KindQuestions.{kind_asks}
 use Rattle.linear_form.specs.internal.NodeTables.{HasValue, AreValues, AreKeptValues, IsNoted, MayHave}
+use Rattle.linear_form.specs.declared.evaluations.Frame.{Frame}
+use Rattle.linear_form.specs.declared.evaluations.Outcome as O
 use Rattle.linear_form.specs.declared.kinds.Operation.{Operation}
 use Rattle.linear_form.specs.declared.kinds.Kind.{Kind}
-use Rattle.linear_form.proofs.KeptValues.{variable_kept}
+use Rattle.linear_form.specs.declared.kinds.Kind as K
 
 -- an entry of a list with one more
 pub get_more : {A : Type 0} (xs : List A) (x y : A) (i : ℕ) → slice_get (xs ++ (x ∷ [])) i ≡ Some y → (slice_get xs i ≡ Some y) ⊎ ((i ≡ length xs) × (x ≡ y))
@@ -68,32 +69,18 @@ pub value_given : (q : Query Result) (o : O.Outcome) (x : Option L.Lin) (j : ℕ
 value_given q o None j e k h = tt
 value_given q o (Some a) j e k h = (asks_nothing q j (Result.number (Some (lin_of a))) (h ∙ ap (λ o. value (outcome_of o) j) e), subst IsKeptOutcome e k)
 
-pub two_given : (ns : List Node) (vs : List (Option L.Lin)) (o : Operation) (a b : ℕ) (x y : Option L.Lin) → AreValues ns vs → IsNoted vs a x → IsNoted vs b y → kind_asks (asks_at ns) (Kind.Two o a b) ≡ operation o (linear_of x) (linear_of y)
-two_given ns vs o a b x y v h k = ap₂ (λ p r. next p (with_second o r)) (value_noted ns vs a x v h) (value_noted ns vs b y v k)
+-- what a part asks whose value is noted
+pub noted_part : (ns : List Node) (vs : List (Option L.Lin)) (a : ℕ) (x : Option L.Lin) (f : Frame) → AreValues ns vs → IsNoted vs a x → next (asks_at ns a) (resumed ns f) ≡ resumed ns f (Result.number (linear_of x))
+noted_part ns vs a x f v h = ap (λ p. next p (resumed ns f)) (value_noted ns vs a x v h)
 
-pub one_given : (ns : List Node) (vs : List (Option L.Lin)) (o : Operation) (a : ℕ) (x : Option L.Lin) → AreValues ns vs → IsNoted vs a x → kind_asks (asks_at ns) (Kind.One o a) ≡ operation o (linear_of x) None
-one_given ns vs o a x v h = ap (λ p. next p (alone o)) (value_noted ns vs a x v h)
-
--- the value of a node, made of what is noted of its parts
-pub noted_variable : (vs : List (Option L.Lin)) (k : Kind) (x : ℕ) (b : L.Lin) → k ≡ Kind.Variable x → lin_of b ≡ variable x → (ns : List Node) → AreValues ns vs → MayHave (kind_asks (asks_at ns) k) (Some b)
-noted_variable vs k x b e h ns a = (ap (kind_asks (asks_at ns)) e ∙ ap (λ c. done (Result.number (Some c))) (sym h), subst IsKept (sym h) (variable_kept x))
-
-pub kind_having : {E : Type 0} (r : R.Result (Option L.Lin) E) (vs : List (Option L.Lin)) (k k' : Kind) → k ≡ k' → IfOk r (λ v. (ns : List Node) → AreValues ns vs → MayHave (kind_asks (asks_at ns) k') v) → IfOk r (λ v. (ns : List Node) → AreValues ns vs → MayHave (kind_asks (asks_at ns) k) v)
-kind_having r vs k k' e h = subst (λ k. IfOk r (λ v. (ns : List Node) → AreValues ns vs → MayHave (kind_asks (asks_at ns) k) v)) (sym e) h
-
-pub noted_two : {E : Type 0} (r : R.Result (Option L.Lin) E) (vs : List (Option L.Lin)) (o : Operation) (a b : ℕ) (x y : Option L.Lin) → IsNoted vs a x → IsNoted vs b y → IfOk r (MayHave (operation o (linear_of x) (linear_of y))) → IfOk r (λ v. (ns : List Node) → AreValues ns vs → MayHave (kind_asks (asks_at ns) (Kind.Two o a b)) v)
-noted_two (Ok v) vs o a b x y h k g = λ ns m. subst (λ q. MayHave q v) (sym (two_given ns vs o a b x y m h k)) g
-noted_two (Err e) vs o a b x y h k g = g
-
-pub noted_one : {E : Type 0} (r : R.Result (Option L.Lin) E) (vs : List (Option L.Lin)) (o : Operation) (a : ℕ) (x : Option L.Lin) → IsNoted vs a x → IfOk r (MayHave (operation o (linear_of x) None)) → IfOk r (λ v. (ns : List Node) → AreValues ns vs → MayHave (kind_asks (asks_at ns) (Kind.One o a)) v)
-noted_one (Ok v) vs o a x h g = λ ns m. subst (λ q. MayHave q v) (sym (one_given ns vs o a x m h)) g
-noted_one (Err e) vs o a x h g = g
+pub noted_parts : (ns : List Node) (vs : List (Option L.Lin)) (o : Operation) (a b : ℕ) (x y : Option L.Lin) → AreValues ns vs → IsNoted vs a x → IsNoted vs b y → kind_asks ns (K.TheVariants.Two o a b) ≡ operation o (linear_of x) (linear_of y)
+noted_parts ns vs o a b x y v h k = ap₂ (λ p r. next p (of_number (λ x. next r (of_number (λ y. operation o x y))))) (value_noted ns vs a x v h) (value_noted ns vs b y v k)
 
 -- a table with one more entry
-pub values_more : (ns : List Node) (vs new : List (Option L.Lin)) (o : Option L.Lin) (k : Kind) → new ≡ vs ++ (o ∷ []) → asks_at ns (length vs) ≡ kind_asks (asks_at ns) k → AreValues ns vs → MayHave (kind_asks (asks_at ns) k) o → AreValues ns new
+pub values_more : (ns : List Node) (vs new : List (Option L.Lin)) (o : Option L.Lin) (k : Kind) → new ≡ vs ++ (o ∷ []) → asks_at ns (length vs) ≡ kind_asks ns k → AreValues ns vs → MayHave (kind_asks ns k) o → AreValues ns new
 values_more ns vs new o k n e h m = subst (AreValues ns) (sym n) (record { each = λ i a g. go i a (get_more vs o (Some a) i g) })
   where
-    here : (i : ℕ) (a : L.Lin) (p : Option L.Lin) → i ≡ length vs → p ≡ Some a → MayHave (kind_asks (asks_at ns) k) p → HasValue ns i a
+    here : (i : ℕ) (a : L.Lin) (p : Option L.Lin) → i ≡ length vs → p ≡ Some a → MayHave (kind_asks ns k) p → HasValue ns i a
     here i a None f g m = absurd (cc)
     here i a (Some b) f g m = let same : b ≡ a = cc in record { asks_nothing = ap (asks_at ns) f ∙ e ∙ m.0 ∙ ap (λ c. done (Result.number (Some (lin_of c)))) same; kept = subst (λ c. IsKept (lin_of c)) same m.1 }
 

@@ -11,6 +11,8 @@ use Rattle.linear_form.specs.Query.Query.{done, ask}
 use Rattle.linear_form.specs.Questions.{zero, one, evaluate}
 use Rattle.linear_form.specs.declared.evaluations.Focus.TheVariants as Focus
 use Rattle.linear_form.specs.declared.evaluations.Frame.TheVariants as Frame
+use Rattle.linear_form.specs.declared.evaluations.Outcome.TheVariants as Outcome
+use Rattle.linear_form.specs.declared.evaluations.Branch.{Branch}
 use Rattle.linear_form.specs.declared.evaluations.Evaluation.{Evaluation}
 use Rattle.heylo_graph.specs.declared.nodes.Node.{Node}
 use Rattle.linear_form.specs.internal.Outcomes.{Result, of_number, valued}
@@ -29,8 +31,8 @@ three = record { atom = Atom.truth 3; held = true }
 -- a place at which 3 holds, and both what is done with this truth and the found form still wait
 record IsBehindThree (ns : List Node) (p : Evaluation) (found : ℕ) : Type 0 where
   at : p.at ≡ 1
-  focus : p.focus ≡ Focus.Truth true
-  frames : p.frames.items ≡ Frame.Stated found ∷ (Frame.Iverson ∷ [])
+  focus : p.focus ≡ Focus.Came (Outcome.Truth true)
+  frames : p.frames.items ≡ Frame.Stated found ∷ (Frame.Choice Branch.One Branch.Zero ∷ [])
   waits : asks_at ns found ≡ valued (evaluate later_goal.found)
 
 -- what is left to ask there: of the found form alone

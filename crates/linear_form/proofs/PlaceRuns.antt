@@ -13,7 +13,8 @@ use Rattle.heylo_graph.specs.declared.nodes.Node.{Node}
 use Rattle.linear_form.specs.internal.NodeTables.{AreValues}
 use Rattle.linear_form.specs.internal.Outcomes.{Result, of_number}
 use Rattle.linear_form.specs.internal.NodeQuestions.{asks_at, asked_if}
-use Rattle.linear_form.specs.internal.Evaluations.{ended, through, IsKeptFrame, AreKeptFrames}
+use Rattle.linear_form.specs.internal.Frames.{IsKeptFrame, AreKeptFrames}
+use Rattle.linear_form.specs.internal.Evaluations.{ended, through}
 use Rattle.linear_form.specs.Places.{IsOn}
 use Rattle.linear_form.specs.declared.goal_graph.GoalGraph.{GoalGraph}
 use Rattle.linear_values.specs.declared.lin.Lin.{Lin}
