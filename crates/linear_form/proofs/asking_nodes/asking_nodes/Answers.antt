@@ -9,8 +9,11 @@ use Rattle.linear_form.proofs.asking_nodes.asking_nodes.Goals as goal
 pub loop-i-init : goal.loop-i-init
 loop-i-init c = record { asking = subst (AreAsking c.args.graph.now) (sym c.in_ok-table.ensures.items) (none_asks c.args.graph.now); long = ap length c.in_ok-table.ensures.items }
 
-pub kind_is_asking-requires : goal.kind_is_asking-requires
-kind_is_asking-requires c = kept_values c.args.graph.now c.args.values.now c.requires
+pub kind_is_asking-requires-clause-values : goal.kind_is_asking-requires-clause-values
+kind_is_asking-requires-clause-values c = kept_values c.args.graph.now c.args.values.now c.requires
+
+pub kind_is_asking-requires-clause-kind : goal.kind_is_asking-requires-clause-kind
+kind_is_asking-requires-clause-kind c = (entered_kind c.args.graph.now c.node.result.now c.new.result c.kind_of-kind.result c.node.ensures.graph (omega arith) c.node.ensures.tree (c.kind_of-kind.ensures c.args.graph.now)).kind.kept
 
 pub loop-i-preserved : goal.loop-i-preserved
 loop-i-preserved c =

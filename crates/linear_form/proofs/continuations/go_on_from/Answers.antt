@@ -4,7 +4,8 @@ use Rattle.linear_form.specs.Paths.{end_at}
 use Rattle.linear_form.specs.Places.{IsOn}
 use Rattle.linear_form.specs.PlainPaths.{path_of, atom_of}
 use Rattle.linear_values.specs.PlainValues.{linear_of}
-use Rattle.linear_form.specs.internal.Evaluations.{standing, IsKeptFocus, AreKeptFrames}
+use Rattle.linear_form.specs.internal.Evaluations.{standing, IsKeptFocus}
+use Rattle.linear_form.specs.internal.Frames.{AreKeptFrames}
 use Rattle.linear_form.specs.internal.Run.Evaluation.{value, decide}
 use Rattle.linear_form.proofs.NodeRuns.{moved}
 use Rattle.linear_form.proofs.PlaceRuns.{values_there}

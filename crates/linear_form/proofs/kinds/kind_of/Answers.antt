@@ -25,7 +25,7 @@ pub returns-in-Cut : goal.returns-in-Cut
 returns-in-Cut c = λ ns t h. is.two_kind ns c.in-Cut.a c.in-Cut.b t Operation.Cut (λ f g. Tree.formula (Form.cut f g)) (sym (ap (assembled (tree_at ns)) c.in-Cut.is) ∙ h.gives) (λ f g. two_valued (q.evaluate f) (q.evaluate g) q.cut) (λ f g. refl)
 
 pub returns-in-Scale : goal.returns-in-Scale
-returns-in-Scale c = λ ns t h. is.one_kind ns c.in-Scale.a t (Operation.Scale c.in-Scale.w) (λ f. Tree.formula (Form.scale c.in-Scale.w f)) (sym (ap (assembled (tree_at ns)) c.in-Scale.is) ∙ h.gives) (λ f. one_valued (q.evaluate f) (q.scale c.in-Scale.w)) (λ f. refl)
+returns-in-Scale c = λ ns t h. is.scale_kind ns c.in-Scale.w c.in-Scale.a t (sym (ap (assembled (tree_at ns)) c.in-Scale.is) ∙ h.gives)
 
 pub returns-in-Product : goal.returns-in-Product
 returns-in-Product c = λ ns t h. is.two_kind ns c.in-Product.a c.in-Product.b t Operation.Product (λ f g. Tree.formula (Form.product f g c.in-Product.field-2)) (sym (ap (assembled (tree_at ns)) c.in-Product.is) ∙ h.gives) (λ f g. two_valued (q.evaluate f) (q.evaluate g) q.product) (λ f g. refl)

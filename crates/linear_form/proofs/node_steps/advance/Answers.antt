@@ -1,37 +1,36 @@
-use Rattle.std.proofs.Common.{◌≡◌, ap, ap₂, arith, sym, subst, ◌∙◌}
-use Rattle.linear_form.specs.Query.Query.{done}
+use Rattle.std.proofs.Common.{ap, sym, subst, refl, arith, ◌∙◌}
 use Rattle.linear_form.specs.PlainPaths.{path_of}
-use Rattle.linear_values.specs.PlainValues.{linear_of}
-use Rattle.linear_form.specs.internal.Run.{along}
-use Rattle.linear_form.specs.internal.Outcomes.{Result}
-use Rattle.linear_form.specs.internal.NodeQuestions.{operation}
-use Rattle.linear_form.specs.internal.Evaluations.{asked_by, focus_weight, IsKeptFocus}
-use Rattle.linear_form.specs.internal.NodeSteps.{Comes}
-use Rattle.linear_form.proofs.NodeRuns.{with_more}
-use Rattle.linear_form.proofs.NodeFrames.{for_focus}
-use Rattle.linear_form.proofs.KeptOperations.{operation_kept, came_kept}
+use Rattle.linear_form.specs.internal.NodeQuestions.{asks_at, node_weight}
+use Rattle.linear_form.specs.internal.Frames.{resumed, frame_weight, AreKeptFrames}
+use Rattle.linear_form.specs.internal.Evaluations.{asked_by, outcome_of, through, IsKeptFocus}
+use Rattle.linear_form.proofs.NodeFrames.{for_focus, frames_again, kept_all, left_popped, none_left, step_popped}
 use Rattle.linear_form.proofs.node_steps.advance.Goals as goal
 
-pub entered-requires-clause-asked : goal.entered-requires-clause-asked
-entered-requires-clause-asked c = ap (asked_by c.args.graph.now) c.in-Node.is
+pub returns-in-Ok : goal.returns-in-Ok
+returns-in-Ok c = for_focus c.args.graph.now c.turned.result (path_of c.args.path.now) c.args.place.now _ _ c.in-Node.is (c.turned.ensures c.args.graph.now (path_of c.args.path.now) (asks_at c.args.graph.now c.in-Node.id) (node_weight c.args.graph.now c.in-Node.id) (rw c.in-Ok.is at c.node_turn.ensures))
 
-pub returns-in-Node : goal.returns-in-Node
-returns-in-Node c = for_focus c.args.graph.now c.entered.result (path_of c.args.path.now) c.args.place.now _ _ c.in-Node.is c.entered.ensures
+pub returns-in-Err : goal.returns-in-Err
+returns-in-Err c = c.stopped.ensures c.args.graph.now (path_of c.args.path.now) (asks_at c.args.graph.now c.in-Node.id) c.args.place.now.frames.items _ c.args.place.now (ap (λ f. through c.args.graph.now (asked_by c.args.graph.now f) c.args.place.now.frames.items) c.in-Node.is) c.requires.focus c.requires.frames (rw c.in-Err.is at c.node_turn.ensures)
 
-pub returns-in-Truth : goal.returns-in-Truth
-returns-in-Truth c = for_focus c.args.graph.now c.truth_given.result (path_of c.args.path.now) c.args.place.now _ _ c.in-Truth.is (with_more c.args.graph.now c.truth_given.result (path_of c.args.path.now) _ c.args.place.now.at _ _ _ (omega arith) (c.truth_given.ensures c.args.graph.now (path_of c.args.path.now)))
+pub returns-in-None : goal.returns-in-None
+returns-in-None c =
+    let k = rw c.in-None.is at c.pop.ensures.cases in
+    let old = c.args.place.now.frames.ok.0 in
+    let new = c.pop.new.self.ok.0 in
+    let none = none_left c.pop.new.self.items (omega (arith, k.1, new)) in
+    frames_again c.args.graph.now c.ended.result (path_of c.args.path.now) c.args.place.now (record { focus = c.args.place.now.focus; frames = c.pop.new.self; at = c.args.place.now.at }) c.args.place.now.focus c.args.place.now.at _ refl refl (none ∙ sym (none_left c.args.place.now.frames.items (omega (arith, k.0, old)))) (c.ended.ensures c.args.graph.now (path_of c.args.path.now) _ (record { focus = c.args.place.now.focus; frames = c.pop.new.self; at = c.args.place.now.at }) none (ap (asked_by c.args.graph.now) c.in-Came.is) c.requires.focus)
 
-pub operated-came-requires-clause-left : goal.operated-came-requires-clause-left
-operated-came-requires-clause-left c = (subst IsKeptFocus c.in-Operator.is c.requires.focus).0
+pub frame_turn-requires-clause-frame : goal.frame_turn-requires-clause-frame
+frame_turn-requires-clause-frame c = (kept_all c.args.place.now.frames.items c.pop.new.self.items c.in-Some.frame c.in-Some.ensures.items c.requires.frames).1
 
-pub operated-came-requires-clause-right : goal.operated-came-requires-clause-right
-operated-came-requires-clause-right c = (subst IsKeptFocus c.in-Operator.is c.requires.focus).1
+pub frame_turn-requires-clause-outcome : goal.frame_turn-requires-clause-outcome
+frame_turn-requires-clause-outcome c = subst IsKeptFocus c.in-Came.is c.requires.focus
 
-pub come_to-requires-clause-kept : goal.come_to-requires-clause-kept
-come_to-requires-clause-kept c = let k = subst IsKeptFocus c.in-Operator.is c.requires.focus in came_kept c.operated-came.result (operation c.in-Operator.operator (linear_of c.in-Operator.x) (linear_of c.in-Operator.y)) (path_of c.args.path.now) c.args.place.now.at (operation_kept c.in-Operator.operator (linear_of c.in-Operator.x) (linear_of c.in-Operator.y) k.0 k.1) c.operated-came.ensures
+pub turned-requires-in-Ok-frame_turn : goal.turned-requires-in-Ok-frame_turn
+turned-requires-in-Ok-frame_turn c = (kept_all c.args.place.now.frames.items c.pop.new.self.items c.in-Some.frame c.in-Some.ensures.items c.requires.frames).0
 
-pub returns-in-Operator : goal.returns-in-Operator
-returns-in-Operator c = let n : focus_weight c.args.graph.now c.args.place.now.focus ≡ 1 = ap (focus_weight c.args.graph.now) c.in-Operator.is in c.come_to.ensures c.args.graph.now (path_of c.args.path.now) _ (subst (λ t. Comes c.operated-came.result (along (path_of c.args.path.now) t c.args.place.now.at)) (sym (ap (asked_by c.args.graph.now) c.in-Operator.is)) c.operated-came.ensures) (omega (arith, n))
+pub returns-in-Ok-frame_turn : goal.returns-in-Ok-frame_turn
+returns-in-Ok-frame_turn c = step_popped c.args.graph.now c.turned-in-Ok-frame_turn.result (path_of c.args.path.now) c.args.place.now _ c.in-Came.outcome c.pop.new.self.items c.in-Some.frame c.in-Came.is c.in-Some.ensures.items (c.turned-in-Ok-frame_turn.ensures c.args.graph.now (path_of c.args.path.now) (resumed c.args.graph.now c.in-Some.frame (outcome_of c.in-Came.outcome)) (frame_weight c.args.graph.now c.in-Some.frame) (rw c.in-Ok-frame_turn.is at (c.frame_turn.ensures c.args.graph.now)))
 
-pub returns-in_ok-found-in-Ends : goal.returns-in_ok-found-in-Ends
-returns-in_ok-found-in-Ends c = c.at_the_end.ensures c.args.graph.now (path_of c.args.path.now) _ c.args.place.now (sym c.deref.ensures.value) (ap (asked_by c.args.graph.now) c.in-Ends.is ∙ ap₂ (λ x y. done (Result.ends (x, y))) (sym c.in_ok-stated-in-Ends.ensures) (sym c.in_ok-found-in-Ends.ensures)) c.requires.focus c.requires.frames
+pub returns-in_ok-push-in-Err-frame_turn : goal.returns-in_ok-push-in-Err-frame_turn
+returns-in_ok-push-in-Err-frame_turn c = let e = c.in_ok-push-in-Err-frame_turn.ensures.items in frames_again c.args.graph.now c.stopped-in-Err-frame_turn.result (path_of c.args.path.now) c.args.place.now (record { focus = c.args.place.now.focus; frames = c.push.new.self; at = c.args.place.now.at }) c.args.place.now.focus c.args.place.now.at _ refl refl (e ∙ sym c.in-Some.ensures.items) (c.stopped-in-Err-frame_turn.ensures c.args.graph.now (path_of c.args.path.now) (resumed c.args.graph.now c.in-Some.frame (outcome_of c.in-Came.outcome)) c.pop.new.self.items _ (record { focus = c.args.place.now.focus; frames = c.push.new.self; at = c.args.place.now.at }) (left_popped c.args.graph.now (record { focus = c.args.place.now.focus; frames = c.push.new.self; at = c.args.place.now.at }) c.in-Came.outcome c.pop.new.self.items c.in-Some.frame c.in-Came.is e) c.requires.focus (subst AreKeptFrames (c.in-Some.ensures.items ∙ sym e) c.requires.frames) (rw c.in-Err-frame_turn.is at (c.frame_turn.ensures c.args.graph.now)))

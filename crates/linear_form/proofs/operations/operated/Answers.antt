@@ -19,9 +19,6 @@ returns-in-Difference c = operator_arm c.number_came-in-Difference.result (path_
 pub returns-in-Cut : goal.returns-in-Cut
 returns-in-Cut c = operator_arm c.number_came-in-Cut.result (path_of c.args.path.now) c.args.operator _ (linear_of c.args.x.now) (linear_of c.args.y.now) c.args.at c.in-Cut.is (c.number_came-in-Cut.ensures (path_of c.args.path.now) (q.cut (linear_of c.args.x.now) (linear_of c.args.y.now)) c.args.at c.cut.ensures)
 
-pub returns-in-Scale : goal.returns-in-Scale
-returns-in-Scale c = operator_arm c.number_came-in-Scale.result (path_of c.args.path.now) c.args.operator _ (linear_of c.args.x.now) (linear_of c.args.y.now) c.args.at c.in-Scale.is (c.number_came-in-Scale.ensures (path_of c.args.path.now) (q.scale c.in-Scale.w (linear_of c.args.x.now)) c.args.at (c.scale.ensures (path_of c.args.path.now)))
-
 pub returns-in-Product : goal.returns-in-Product
 returns-in-Product c = operator_arm c.number_came-in-Product.result (path_of c.args.path.now) c.args.operator _ (linear_of c.args.x.now) (linear_of c.args.y.now) c.args.at c.in-Product.is (c.number_came-in-Product.ensures (path_of c.args.path.now) (q.product (linear_of c.args.x.now) (linear_of c.args.y.now)) c.args.at c.product.ensures)
 
