@@ -1,8 +1,7 @@
 -- A question whose row the path has already: with one answer the path is kept, with the other one it's dropped.
-use Rattle.std.proofs.Common.{◌≡◌, ℕ, ◌+◌, ◌≤◌, List, [], ◌∷◌, ◌++◌, length, take, refl, sym, ap, ◌∙◌, subst, arith, length-append, Bool, true, false}
+use Rattle.std.proofs.Common.{◌≡◌, ℕ, ◌+◌, ◌≤◌, ◌<◌, List, [], ◌∷◌, ◌++◌, length, take, refl, sym, ap, ◌∙◌, subst, arith, length-append, Bool, true, false}
 use Prim.Native.Nat.{suc}
 use Rattle.std.specs.Prelude.{None, not}
-use Rattle.std.specs.List.{Contains}
 use Rattle.std.proofs.lemmas.List.{get_or_push, get_or_append_left}
 use Rattle.std.proofs.lemmas.List.Elements.{Contains-get_or}
 use Rattle.std.proofs.Math.Seq.{take-append_seam}
@@ -28,46 +27,40 @@ use Rattle.region_split.specs.Walk.{AreBefore}
 use Rattle.region_split.specs.Decisions.{IsLarge}
 use Rattle.region_split.specs.internal.Clashes.{Clash}
 use Rattle.region_split.specs.internal.PathFindings.{EndsWalk}
-use Rattle.region_split.specs.internal.Trails.{IsDroppedBy}
-use Rattle.region_split.specs.internal.KnownComparisons.{StandsIn}
-use Rattle.region_split.specs.internal.Repeats.{AreAnswerRows, IsAsked}
-use Rattle.region_split.specs.declared.answer_rows.AnswerRows.{AnswerRows}
+use Rattle.region_split.specs.internal.Trails.{IsDroppedBy, StandsAt}
+use Rattle.region_split.specs.internal.KnownComparisons.{IsRecalled}
+use Rattle.region_split.specs.internal.Repeats.{IsAsked}
+use Rattle.region_split.specs.declared.known_comparisons.Recalled.{Recalled}
 use Rattle.region_split.specs.declared.trail.Trail.{Trail}
 use Rattle.region_split.proofs.ClashingRows.{clash_contradicts}
+use Rattle.region_split.proofs.KnownRows.{row_behind}
 use Rattle.region_split.proofs.PathAnswers.{dropped_by, unended_undenied}
 use Rattle.region_split.proofs.Trails.{same_path_rows, unstated_path}
 
 -- the branch of the other answer
-dropped_other : (g : Goal) (qs : List Taken) (rows : List Row) (r other : Row) (i : ℕ) → StandsIn rows r i → Clash r other → IsNoEnd g qs → HasFirstRows g qs (rows ++ (other ∷ [])) → IsDroppedBy g qs ((i, 1) ∷ ((length rows, 1) ∷ []))
-dropped_other g qs rows r other i s h n f =
+dropped_other : (g : Goal) (qs : List Taken) (rows : List Row) (other : Row) (i : ℕ) → i < length rows → Clash (row_at rows i) other → IsNoEnd g qs → HasFirstRows g qs (rows ++ (other ∷ [])) → IsDroppedBy g qs ((i, 1) ∷ ((length rows, 1) ∷ []))
+dropped_other g qs rows other i l h n f =
     let all = (rows ++ (other ∷ [])) ++ f.signs in
     let a = length-append (rows ++ (other ∷ [])) f.signs in
     let b = length-append rows (other ∷ []) in
-    let l = s.inside in
-    let at_row : row_at all i ≡ r = get_or_append_left (rows ++ (other ∷ [])) f.signs _ i (omega (arith, b, l)) ∙ get_or_append_left rows (other ∷ []) _ i l ∙ s.same in
+    let at_row : row_at all i ≡ row_at rows i = get_or_append_left (rows ++ (other ∷ [])) f.signs _ i (omega (arith, b, l)) ∙ get_or_append_left rows (other ∷ []) _ i l in
     let at_other : row_at all (length rows) ≡ other = get_or_append_left (rows ++ (other ∷ [])) f.signs _ (length rows) (omega (arith, b)) ∙ get_or_push rows other _ (length rows) refl in
-    let k : IsRefutedWith g qs false ((i, 1) ∷ ((length rows, 1) ∷ [])) = record { rows = all; are_rows = f.are_rows; contradiction = clash_contradicts all r other i (length rows) l (omega (arith, a, b)) at_row at_other h } in
+    let k : IsRefutedWith g qs false ((i, 1) ∷ ((length rows, 1) ∷ [])) = record { rows = all; are_rows = f.are_rows; contradiction = clash_contradicts all (row_at rows i) other i (length rows) l (omega (arith, a, b)) at_row at_other h } in
     dropped_by g qs false _ _ (unended_undenied g qs n) k k
 
-contained : (rows : List Row) (r : Row) (i : ℕ) → StandsIn rows r i → Contains rows r
-contained rows r i s = subst (Contains rows) s.same (Contains-get_or rows i _ s.inside)
-
 -- what the law says of a question that the path has answered
-pub record IsAnsweredBefore (g : Goal) (ps : List Taken) (q : Atom) (held : Bool) (i n : ℕ) : Type 0 where
+pub record IsAnsweredBefore (g : Goal) (ps : List Taken) (q : Atom) (rows : List Row) (held : Bool) (i n : ℕ) : Type 0 where
   pub kept : IsKeptPath g (onto ps q held)
+  pub are_rows : ArePathRows g (onto ps q held) (rows ++ (row_at rows i ∷ []))
   pub dropped : IsDroppedBy g (onto ps q (not held)) ((i, 1) ∷ ((n, 1) ∷ []))
 
-pub answered_yes : (g : Goal) (ps : List Taken) (q : Atom) (t : Trail) (rows : AnswerRows) (i n : ℕ) → RepeatedRowsStand → IsAsked g ps q → AreAnswerRows g ps q t rows → StandsIn t.rows.items rows.yes i → Clash rows.yes rows.no → n ≡ length t.rows.items → IsAnsweredBefore g ps q true i n
-answered_yes g ps q t rows i n law a h s k e =
-    let own = subst (λ qs. ArePathRows g qs t.rows.items) h.at.path h.at.stands.rows in
-    let l = law g ps q true t.rows.items rows.yes rows.no own h.yes h.no (contained t.rows.items rows.yes i s) a.goes_on.kept in
-    record { kept = l.0; dropped = subst (λ m. IsDroppedBy g (onto ps q false) ((i, 1) ∷ ((m, 1) ∷ []))) (sym e) (dropped_other g (onto ps q false) t.rows.items rows.yes rows.no i s k a.lasts_no l.1) }
-
-pub answered_no : (g : Goal) (ps : List Taken) (q : Atom) (t : Trail) (rows : AnswerRows) (i n : ℕ) → RepeatedRowsStand → IsAsked g ps q → AreAnswerRows g ps q t rows → StandsIn t.rows.items rows.no i → Clash rows.no rows.yes → n ≡ length t.rows.items → IsAnsweredBefore g ps q false i n
-answered_no g ps q t rows i n law a h s k e =
-    let own = subst (λ qs. ArePathRows g qs t.rows.items) h.at.path h.at.stands.rows in
-    let l = law g ps q false t.rows.items rows.no rows.yes own h.no h.yes (contained t.rows.items rows.no i s) a.goes_on.kept in
-    record { kept = l.0; dropped = subst (λ m. IsDroppedBy g (onto ps q true) ((i, 1) ∷ ((m, 1) ∷ []))) (sym e) (dropped_other g (onto ps q true) t.rows.items rows.no rows.yes i s k a.lasts_yes l.1) }
+pub answered : (g : Goal) (ps : List Taken) (q : Atom) (t : Trail) (r : Recalled) (n : ℕ) → RepeatedRowsStand → IsAsked g ps q → StandsAt g ps t → IsRecalled g.types t.rows.items q r → n ≡ length t.rows.items → IsAnsweredBefore g ps q t.rows.items r.held r.index n
+answered g ps q t r n law a s k e =
+    let rows = t.rows.items in
+    let own = subst (λ qs. ArePathRows g qs rows) s.path s.stands.rows in
+    let more = row_behind g ps q r.held rows (row_at rows r.index) own k.own in
+    let l = law g ps q r.held rows (row_at rows r.index) k.other own more (row_behind g ps q (not r.held) rows k.other own k.others) (Contains-get_or rows r.index _ k.inside) a.goes_on.kept in
+    record { kept = l.0; are_rows = more; dropped = subst (λ m. IsDroppedBy g (onto ps q (not r.held)) ((r.index, 1) ∷ ((m, 1) ∷ []))) (sym e) (dropped_other g (onto ps q (not r.held)) rows k.other r.index k.inside k.clash (a.lasts (not r.held)) l.1) }
 
 -- ---- The rows of the answers
 

@@ -5,18 +5,13 @@ use Rattle.linear_form.specs.Query.{Atom, Taken, onto}
 use Rattle.linear_rows.specs.Row.{Row}
 use Rattle.linear_form.specs.RowLists.{ArePathRows}
 use Rattle.region_split.specs.internal.KnownComparisons.{IsRowOf}
-use Rattle.region_split.specs.internal.Trails.{StandsAt, AreRowsSoFar}
+use Rattle.region_split.specs.internal.Trails.{AreRowsSoFar}
 use Rattle.region_split.specs.internal.Repeats.{AreAnswerRows}
 use Rattle.region_split.specs.declared.answer_rows.AnswerRows.{AnswerRows}
 use Rattle.region_split.specs.declared.trail.Trail.{Trail}
 use Rattle.region_split.proofs.WalkMoves.{snoc_first}
 use Rattle.region_split.proofs.Trails.{rows_before_last}
 use Rattle.region_split.proofs.KnownRows.{row_behind, row_alone}
-
-pub are_answers : (g : Goal) (ps : List Taken) (q : Atom) (t : Trail) (a b : Row) → StandsAt g ps t → IsRowOf g.types q true a → IsRowOf g.types q false b → AreAnswerRows g ps q t (record { yes = a; no = b })
-are_answers g ps q t a b s e f =
-    let own = subst (λ qs. ArePathRows g qs t.rows.items) s.path s.stands.rows in
-    record { at = s; yes = row_behind g ps q true t.rows.items a own e; no = row_behind g ps q false t.rows.items b own f }
 
 pub yes_alone : (g : Goal) (ps : List Taken) (q : Atom) (t : Trail) (rows : AnswerRows) → AreAnswerRows g ps q t rows → IsRowOf g.types q true rows.yes
 yes_alone g ps q t rows a = row_alone g ps q true t.rows.items rows.yes (subst (λ qs. ArePathRows g qs t.rows.items) a.at.path a.at.stands.rows) a.yes

@@ -183,7 +183,7 @@ rows_first g ps rows list h e = go
 -- ---- Trails
 
 -- without its last answer
-pub stood_before : (g : Goal) (t before : Trail) (answer : T.Taken) (way : Way) (left count : ℕ) → Stands g t → t.path.items ≡ before.path.items ++ (answer ∷ []) → t.places.items ≡ before.places.items ++ (way ∷ []) → length (answer_claims (atom_of answer.atom) answer.held) ≡ count → left ≡ length t.rows.items - count → before.rows.items ≡ take left t.rows.items → AreOccurrences (length g.types) before.rows.items before.occurrences → Remembers before.search.value before.rows.items → AreKnown g.types before.visited.items → StoodBefore g t before answer way
+pub stood_before : (g : Goal) (t before : Trail) (answer : T.Taken) (way : Way) (left count : ℕ) → Stands g t → t.path.items ≡ before.path.items ++ (answer ∷ []) → t.places.items ≡ before.places.items ++ (way ∷ []) → length (answer_claims (atom_of answer.atom) answer.held) ≡ count → left ≡ length t.rows.items - count → before.rows.items ≡ take left t.rows.items → AreOccurrences (length g.types) before.rows.items before.occurrences → Remembers before.search.value before.rows.items → AreKnown g.types before.atoms → StoodBefore g t before answer way
 stood_before g t before answer way left count h p q n l r o m kn =
     let ps = path_of before.path.items in
     let e : path_of t.path.items ≡ ps ++ (taken_of answer ∷ []) = ap path_of p ∙ map-append taken_of before.path.items (answer ∷ []) in
@@ -204,7 +204,7 @@ pub no_places : (g : Goal) (t : Trail) → Stands g t → length t.places.items 
 no_places g t h e = let l = has_last g (path_of t.path.items) t.places.items h.places in let i = ap length l.split ∙ length-append l.before (l.last ∷ []) in absurd (omega (arith, e, i))
 
 -- with one more answer
-pub comes_by : (g : Goal) (t next : Trail) (answer : T.Taken) (way : Way) → Stands g t → IsWay g (path_of t.path.items) (taken_of answer) way → next.path.items ≡ t.path.items ++ (answer ∷ []) → next.places.items ≡ t.places.items ++ (way ∷ []) → next.rows ≡ t.rows → next.occurrences ≡ t.occurrences → next.search ≡ t.search → AreKnown g.types next.visited.items → ComesBy g t answer next
+pub comes_by : (g : Goal) (t next : Trail) (answer : T.Taken) (way : Way) → Stands g t → IsWay g (path_of t.path.items) (taken_of answer) way → next.path.items ≡ t.path.items ++ (answer ∷ []) → next.places.items ≡ t.places.items ++ (way ∷ []) → next.rows ≡ t.rows → next.occurrences ≡ t.occurrences → next.search ≡ t.search → AreKnown g.types next.atoms → ComesBy g t answer next
 comes_by g t next answer way h o p q r n s kn =
     let ps = path_of t.path.items in
     let e : path_of next.path.items ≡ ps ++ (taken_of answer ∷ []) = ap path_of p ∙ map-append taken_of t.path.items (answer ∷ []) in
@@ -220,7 +220,7 @@ comes_by g t next answer way h o p q r n s kn =
     }
 
 -- with one more answer and its row
-pub stands_further : (g : Goal) (ps : List Taken) (t next : Trail) (answer : T.Taken) (way : Way) (row : Row) → Stands g t → ps ≡ path_of t.path.items ++ (taken_of answer ∷ []) → IsWay g (path_of t.path.items) (taken_of answer) way → ArePathRows g ps (t.rows.items ++ (row ∷ [])) → next.path.items ≡ t.path.items ++ (answer ∷ []) → next.places.items ≡ t.places.items ++ (way ∷ []) → next.rows.items ≡ t.rows.items ++ (row ∷ []) → AreOccurrences (length g.types) next.rows.items next.occurrences → next.search ≡ t.search → AreKnown g.types next.visited.items → StandsAt g ps next
+pub stands_further : (g : Goal) (ps : List Taken) (t next : Trail) (answer : T.Taken) (way : Way) (row : Row) → Stands g t → ps ≡ path_of t.path.items ++ (taken_of answer ∷ []) → IsWay g (path_of t.path.items) (taken_of answer) way → ArePathRows g ps (t.rows.items ++ (row ∷ [])) → next.path.items ≡ t.path.items ++ (answer ∷ []) → next.places.items ≡ t.places.items ++ (way ∷ []) → next.rows.items ≡ t.rows.items ++ (row ∷ []) → AreOccurrences (length g.types) next.rows.items next.occurrences → next.search ≡ t.search → AreKnown g.types next.atoms → StandsAt g ps next
 stands_further g ps t next answer way row h e o k p q r n s kn =
     let qs = path_of t.path.items in
     let f : path_of next.path.items ≡ ps = ap path_of p ∙ map-append taken_of t.path.items (answer ∷ []) ∙ sym e in
@@ -237,7 +237,7 @@ stands_further g ps t next answer way row h e o k p q r n s kn =
     }
 
 -- the same once more
-pub stands_still : (g : Goal) (t next : Trail) → Stands g t → next.path.items ≡ t.path.items → next.places ≡ t.places → next.rows.items ≡ t.rows.items → next.occurrences ≡ t.occurrences → next.search ≡ t.search → AreKnown g.types next.visited.items → StandsAt g (path_of t.path.items) next
+pub stands_still : (g : Goal) (t next : Trail) → Stands g t → next.path.items ≡ t.path.items → next.places ≡ t.places → next.rows.items ≡ t.rows.items → next.occurrences ≡ t.occurrences → next.search ≡ t.search → AreKnown g.types next.atoms → StandsAt g (path_of t.path.items) next
 stands_still g t next h p q r o s kn = record {
   path = ap path_of p;
   stands = record {
@@ -250,7 +250,7 @@ stands_still g t next h p q r o s kn = record {
 }
 
 -- before the first question
-pub comes_first : (g : Goal) (t : Trail) (p : Place) → IsOn g [] p → t.path.items ≡ [] → t.places.items ≡ Open p ∷ [] → t.rows.items ≡ [] → AreOccurrences (length g.types) [] t.occurrences → ((rows : List Row) → Remembers t.search.value rows) → AreKnown g.types t.visited.items → Comes g t
+pub comes_first : (g : Goal) (t : Trail) (p : Place) → IsOn g [] p → t.path.items ≡ [] → t.places.items ≡ Open p ∷ [] → t.rows.items ≡ [] → AreOccurrences (length g.types) [] t.occurrences → ((rows : List Row) → Remembers t.search.value rows) → AreKnown g.types t.atoms → Comes g t
 comes_first g t p o e q r n m kn =
     let a = ap path_of e in
     record {
@@ -262,7 +262,7 @@ comes_first g t p o e q r n m kn =
     }
 
 -- once the last answer has its row
-pub stands_with : (g : Goal) (t next : Trail) → Comes g t → ArePathRows g (path_of t.path.items) next.rows.items → next.path ≡ t.path → next.places ≡ t.places → AreOccurrences (length g.types) next.rows.items next.occurrences → next.search ≡ t.search → AreKnown g.types next.visited.items → Stands g next
+pub stands_with : (g : Goal) (t next : Trail) → Comes g t → ArePathRows g (path_of t.path.items) next.rows.items → next.path ≡ t.path → next.places ≡ t.places → AreOccurrences (length g.types) next.rows.items next.occurrences → next.search ≡ t.search → AreKnown g.types next.atoms → Stands g next
 stands_with g t next h k p q o s kn = record {
   places = subst (λ v. ArePlaces g (path_of v.items) next.places.items) (sym p) (subst (λ v. ArePlaces g (path_of t.path.items) v.items) (sym q) h.places);
   rows = subst (λ v. ArePathRows g (path_of v.items) next.rows.items) (sym p) k;
@@ -272,7 +272,7 @@ stands_with g t next h k p q o s kn = record {
 }
 
 -- behind a look, once the rows that hold only there are gone
-pub stands_again : (g : Goal) (t next : Trail) (list : List Row) → Stands g t → take (length t.rows.items) list ≡ t.rows.items → next.path ≡ t.path → next.places ≡ t.places → next.rows.items ≡ take (length t.rows.items) list → next.occurrences ≡ t.occurrences → Remembers next.search.value (take (length t.rows.items) list) → AreKnown g.types next.visited.items → StandsAt g (path_of t.path.items) next
+pub stands_again : (g : Goal) (t next : Trail) (list : List Row) → Stands g t → take (length t.rows.items) list ≡ t.rows.items → next.path ≡ t.path → next.places ≡ t.places → next.rows.items ≡ take (length t.rows.items) list → next.occurrences ≡ t.occurrences → Remembers next.search.value (take (length t.rows.items) list) → AreKnown g.types next.atoms → StandsAt g (path_of t.path.items) next
 stands_again g t next list h f p q r o m kn = record {
   path = ap (λ v. path_of v.items) p;
   stands = record {
@@ -284,11 +284,11 @@ stands_again g t next list h f p q r o m kn = record {
   };
 }
 
-pub looked : (g : Goal) (t next : Trail) (list held : List Row) (kept : ℕ) → Stands g t → kept ≡ length t.rows.items → take (length t.rows.items) list ≡ t.rows.items → held ≡ list → next.path ≡ t.path → next.places ≡ t.places → next.rows.items ≡ take kept list → next.occurrences ≡ t.occurrences → Remembers next.search.value (take kept held) → AreKnown g.types next.visited.items → StandsAt g (path_of t.path.items) next
+pub looked : (g : Goal) (t next : Trail) (list held : List Row) (kept : ℕ) → Stands g t → kept ≡ length t.rows.items → take (length t.rows.items) list ≡ t.rows.items → held ≡ list → next.path ≡ t.path → next.places ≡ t.places → next.rows.items ≡ take kept list → next.occurrences ≡ t.occurrences → Remembers next.search.value (take kept held) → AreKnown g.types next.atoms → StandsAt g (path_of t.path.items) next
 looked g t next list held kept h e f d p q r o m kn = stands_again g t next list h f p q (r ∙ ap (λ k. take k list) e) o (subst (λ k. Remembers next.search.value (take k list)) e (subst (λ xs. Remembers next.search.value (take kept xs)) d m)) kn
 
 -- the same where no search looked
-pub again : (g : Goal) (t next : Trail) (list : List Row) (kept : ℕ) → Stands g t → kept ≡ length t.rows.items → take (length t.rows.items) list ≡ t.rows.items → next.path ≡ t.path → next.places ≡ t.places → next.rows.items ≡ take kept list → next.occurrences ≡ t.occurrences → next.search ≡ t.search → AreKnown g.types next.visited.items → StandsAt g (path_of t.path.items) next
+pub again : (g : Goal) (t next : Trail) (list : List Row) (kept : ℕ) → Stands g t → kept ≡ length t.rows.items → take (length t.rows.items) list ≡ t.rows.items → next.path ≡ t.path → next.places ≡ t.places → next.rows.items ≡ take kept list → next.occurrences ≡ t.occurrences → next.search ≡ t.search → AreKnown g.types next.atoms → StandsAt g (path_of t.path.items) next
 again g t next list kept h e f p q r o s kn = looked g t next list list kept h e f refl p q r o (subst (λ x. Remembers x.value (take kept list)) (sym s) (subst (Remembers t.search.value) (sym (ap (λ k. take k list) e ∙ f)) h.remembers)) kn
 
 pub two_parts : (list a b : List Row) (kept : ℕ) → a ≡ take kept list → b ≡ drop kept list → list ≡ a ++ b

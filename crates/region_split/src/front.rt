@@ -21,7 +21,8 @@ ghost use Rattle.region_split.specs.internal.PathFindings.{IsSeen, IsEndOf};
 ghost use Rattle.region_split.specs.internal.Trails.{ArePlaces, AreRowsSoFar, Comes, Stands};
 ghost use Rattle.region_split.specs.declared.trail.Way.TheVariants.{Open};
 
-use crate::known_comparisons::{Known, copy_row, row_of_last};
+use crate::atoms::Atoms;
+use crate::known_comparisons::copy_row;
 use crate::moved_multipliers::{moved, places};
 use crate::solver::{Settled, settle};
 use crate::trail::{Trail, Way};
@@ -66,7 +67,7 @@ pub fn look(alloc: Global, goal: &Goal, trail: &mut Trail) -> Result<Front, Allo
 {
     let noted = trail.rows.len();
     let before = std::mem::replace(&mut trail.rows, Vec::new(alloc));
-    match with_last_row(alloc, goal, &trail.path, &trail.visited, before)? {
+    match with_last_row(alloc, goal, &trail.path, &trail.atoms, before)? {
         RowList::Rows(rows) => {
             trail.rows = rows;
             trail.occurrences.note(&trail.rows, noted);
@@ -82,18 +83,18 @@ fn with_last_row(
     alloc: Global,
     goal: &Goal,
     path: &[Taken],
-    visited: &[Known],
+    atoms: &Atoms,
     mut rows: Vec<Row>,
 ) -> Result<RowList, AllocError>
     requires path { IsPath (goal_of goal.now) (path_of path.now) }
-    requires known { AreKnown (goal_of goal.now).types visited.now }
+    requires known { AreKnown (goal_of goal.now).types atoms.now }
     requires rows { AreRowsSoFar (goal_of goal.now) (path_of path.now) rows.items }
     ensures { IfOk result (λ r. Lists r (all_tightened (types_in (goal_of goal.now).types) (path_claims (path_of path.now)))) }
 {
     let Some((answer, _)) = path.split_last() else {
         return Ok(RowList::Rows(rows));
     };
-    match row_of_last(visited, rows.len(), answer) {
+    match atoms.row_of(answer) {
         Some(row) => {
             rows.push(copy_row(alloc, row)?)?;
             Ok(RowList::Rows(rows))

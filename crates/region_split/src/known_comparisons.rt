@@ -4,18 +4,19 @@ ghost use Rattle.std.specs.Prelude.{◌≡◌, List, true, false, IfOk, IfSome, 
 ghost use Rattle.heylo_formula.specs.declared.types.Ty.{Ty as PlainTy};
 ghost use Rattle.linear_form.specs.PlainPaths.{atom_of};
 ghost use Rattle.linear_values.specs.PlainValues.{lin_of};
-ghost use Rattle.region_split.specs.internal.KnownComparisons.{AreKnown, IsKnownQuestion, IsRecalled, IsRowOf, question_of};
+ghost use Rattle.region_split.specs.internal.KnownComparisons.{IsKnownQuestion, IsRecalled, IsRowOf, question_of};
 
 use crate::answer_rows::AnswerRows;
 use crate::clashes::clash;
 use crate::moved_multipliers::is_same_row;
 use heyvl_num::Frac;
-use linear_form::{Atom, Taken};
+use linear_form::Atom;
 use linear_rows::Row;
 use linear_values::Lin;
+use linear_values::lin::copy;
 use std::alloc::{AllocError, Global};
 
-/// A comparison that a path has answered, and the rows of both answers, which clash.
+/// A comparison that a walk has met, and the rows of both answers, which clash.
 #[derive(Drop)]
 pub struct Known {
     /// The linear value that is compared with 0.
@@ -26,28 +27,15 @@ pub struct Known {
     pub yes: Row,
     /// The row of no.
     pub no: Row,
-    /// The index that the answer's row has on the path.
-    pub index: usize,
+    /// The number of the first comparison that the walk has met with one of these rows.
+    pub first: usize,
 }
 
-/// An answer that a path has given before: its row, and the index that this row has on the path.
-#[derive(Drop)]
+/// An answer that a path has given before, and the index of its row on the path.
+#[derive(Clone, Copy)]
 pub struct Recalled {
     pub held: bool,
-    pub row: Row,
     pub index: usize,
-}
-
-/// The same value again. Want of memory is the one error.
-pub fn copy_value(alloc: Global, value: &Lin) -> Result<Lin, AllocError>
-    ensures { IfOk result (λ v. lin_of v ≡ lin_of value.now) }
-{
-    let mut terms = Vec::new(alloc);
-    terms.extend_from_slice(&value.terms)?;
-    Ok(Lin {
-        terms,
-        rest: value.rest,
-    })
 }
 
 /// The same row again. Want of memory is the one error.
@@ -63,12 +51,13 @@ pub fn copy_row(alloc: Global, row: &Row) -> Result<Row, AllocError>
     })
 }
 
-/// The comparison with the rows of its answers; none where these don't clash. Want of memory is the one error.
+/// The comparison with the rows of its answers, where this is the number of the first one with one of them; none where the rows don't
+/// clash. Want of memory is the one error.
 pub fn make_known(
     alloc: Global,
     atom: &Atom,
     rows: AnswerRows,
-    index: usize,
+    first: usize,
 ) -> Result<Option<Known>, AllocError>
     ensures { (types : List PlainTy) → IsRowOf types (atom_of atom.now) true rows.yes → IsRowOf types (atom_of atom.now) false rows.no → IfOk result (λ k. IfSome k (λ k. IsKnownQuestion types k)) }
 {
@@ -82,11 +71,11 @@ pub fn make_known(
         return Ok(None);
     }
     Ok(Some(Known {
-        left: copy_value(alloc, left)?,
+        left: copy(alloc, left)?,
         strict: *strict,
         yes: rows.yes,
         no: rows.no,
-        index,
+        first,
     }))
 }
 
@@ -117,7 +106,7 @@ fn is_same_value(a: &Lin, b: &Lin) -> bool
 }
 
 /// Whether this is the question.
-fn asks(known: &Known, atom: &Atom) -> bool
+pub fn asks(known: &Known, atom: &Atom) -> bool
     ensures { IsTrue result → question_of known.now ≡ atom_of atom.now }
 {
     match atom {
@@ -127,69 +116,24 @@ fn asks(known: &Known, atom: &Atom) -> bool
 }
 
 /// The row of the answer.
-fn row_of(known: &Known, held: bool) -> &Row
+pub fn row_of(known: &Known, held: bool) -> &Row
     ensures { (types : List PlainTy) → IsKnownQuestion types known.now → IsRowOf types (question_of known.now) held result.now }
 {
     if held { &known.yes } else { &known.no }
 }
 
-/// The row of an answer that comes to stand at the index, where the last one of these comparisons tells it.
-pub fn row_of_last<'a>(visited: &'a [Known], index: usize, answer: &Taken) -> Option<&'a Row>
-    ensures { (types : List PlainTy) → AreKnown types visited.now → IfSome result (λ r. IsRowOf types (atom_of answer.now.atom) answer.now.held r.now) }
+/// The answer whose row stands on the path at the index, where one of them does.
+pub fn answer(known: &Known, rows: &[Row], index: usize) -> Option<Recalled>
+    ensures { (types : List PlainTy) → IsKnownQuestion types known.now → IfSome result (IsRecalled types rows.now (question_of known.now)) }
 {
-    let Some(known) = visited.last() else {
-        return None;
-    };
-    if known.index == index && asks(known, &answer.atom) {
-        Some(row_of(known, answer.held))
-    } else {
-        None
-    }
-}
-
-/// The answer whose row stands on the path, where one of them does at the index. Want of memory is the one error.
-fn answer(alloc: Global, known: &Known, rows: &[Row]) -> Result<Option<Recalled>, AllocError>
-    ensures { (types : List PlainTy) → IsKnownQuestion types known.now → IfOk result (λ r. IfSome r (λ r. IsRecalled types rows.now (question_of known.now) r)) }
-{
-    let index = known.index;
     if index >= rows.len() {
-        return Ok(None);
+        return None;
     }
     if is_same_row(&rows[index], &known.yes) {
-        return Ok(Some(Recalled {
-            held: true,
-            row: copy_row(alloc, &known.yes)?,
-            index,
-        }));
+        return Some(Recalled { held: true, index });
     }
     if is_same_row(&rows[index], &known.no) {
-        return Ok(Some(Recalled {
-            held: false,
-            row: copy_row(alloc, &known.no)?,
-            index,
-        }));
+        return Some(Recalled { held: false, index });
     }
-    Ok(None)
-}
-
-/// The answer that the path has given to the question, where one of these tells it. Want of memory is the one error.
-pub fn recall(
-    alloc: Global,
-    visited: &[Known],
-    rows: &[Row],
-    atom: &Atom,
-) -> Result<Option<Recalled>, AllocError>
-    ensures { (types : List PlainTy) → AreKnown types visited.now → IfOk result (λ r. IfSome r (λ r. IsRecalled types rows.now (atom_of atom.now) r)) }
-{
-    let mut rest = visited;
-    'known: while let Some((first, others)) = rest.split_first() {
-        if asks(first, atom) {
-            let found = answer(alloc, first, rows)?;
-            if found.is_some() {
-                return Ok(found);
-            }
-        }
-        rest = others;
-    }
-    Ok(None)
+    None
 }

@@ -3,6 +3,7 @@
 
 mod answer_rows;
 mod ascent;
+mod atoms;
 mod cell;
 mod clashes;
 mod decision;

@@ -13,13 +13,14 @@ ghost use Rattle.region_split.specs.internal.Progress.{IsBroken, IsClosed, IsPie
 
 use crate::front::End;
 use crate::growth::{joined_halves, leaf};
-use crate::known_comparisons::{copy_row, copy_value};
+use crate::known_comparisons::copy_row;
 use crate::points::with_path;
 use crate::solver::{Solved, solve_rows};
 use goal_answers::{Broken, Cause, Tree};
 use heylo_formula::{Goal, Val};
 use linear_form::{Atom, RowList, Taken, next_row, split, with_denied_goal};
 use linear_rows::Row;
+use linear_values::lin::copy;
 use linear_values::numbers::narrow;
 use std::alloc::{AllocError, Global};
 
@@ -230,7 +231,7 @@ fn copy_atom(alloc: Global, atom: &Atom) -> Result<Atom, AllocError>
 {
     match atom {
         Atom::Truth(x) => Ok(Atom::Truth(*x)),
-        Atom::Row(left, strict) => Ok(Atom::Row(copy_value(alloc, left)?, *strict)),
+        Atom::Row(left, strict) => Ok(Atom::Row(copy(alloc, left)?, *strict)),
     }
 }
 

@@ -6,11 +6,9 @@ ghost use Rattle.linear_form.specs.PathRows.{answer_claims};
 ghost use Rattle.linear_form.specs.PlainPaths.{path_of, atom_of, taken_of};
 ghost use Rattle.linear_form.specs.Query.{Taken as PlainTaken};
 ghost use Rattle.linear_form.specs.RowLists.{ArePathRows};
-ghost use Rattle.region_split.specs.internal.KnownComparisons.{AreKnown, IsKnownQuestion};
-ghost use Rattle.heylo_formula.specs.declared.types.Ty.{Ty as PlainTy};
 ghost use Rattle.region_split.specs.internal.Trails.{Comes, Stands, StandsAt, IsWay, IsBack, ComesBy};
 
-use crate::known_comparisons::Known;
+use crate::atoms::Atoms;
 use heylo_formula::Goal;
 use linear_form::{Atom, Place, Taken, begin};
 use linear_guess::Search;
@@ -36,8 +34,8 @@ pub struct Trail {
     pub places: Vec<Way>,
     /// The rows of the answers, in order.
     pub rows: Vec<Row>,
-    /// The comparisons that the path hadn't answered before, in order. The last one may be the next question.
-    pub visited: Vec<Known>,
+    /// The comparisons that the walk has met.
+    pub atoms: Atoms,
     /// Where the variables occur first in these rows.
     pub occurrences: Occurrences,
     /// What was found of the rows.
@@ -54,7 +52,7 @@ pub fn start(alloc: Global, goal: &Goal) -> Result<Trail, AllocError>
         path: Vec::new(alloc),
         places,
         rows: Vec::new(alloc),
-        visited: Vec::new(alloc),
+        atoms: Atoms::new(alloc),
         occurrences: Occurrences::new(alloc, goal.vars.len())?,
         search: Box::new(alloc, Search::new(alloc))?,
     })
@@ -79,32 +77,6 @@ pub fn further(trail: &mut Trail, answer: Taken, way: Way, row: Row) -> Result<(
     trail.rows.push(row)?;
     trail.occurrences.note(&trail.rows, count);
     Ok(())
-}
-
-/// Notes on the trail what is known of its next question. Want of memory is the one error.
-pub fn note(trail: &mut Trail, known: Known) -> Result<(), AllocError>
-    ensures { (g : PlainGoal) → Stands g trail.old → IsKnownQuestion g.types known → IfOk result (λ _. StandsAt g (path_of trail.old.path.items) trail.new) }
-{
-    forget(&mut trail.visited, known.index);
-    trail.visited.push(known)?;
-    Ok(())
-}
-
-/// Takes off the last one of the comparisons, where its row has this index or a greater one.
-fn forget(visited: &mut Vec<Known>, index: usize)
-    ensures { (types : List PlainTy) → AreKnown types visited.old.items → AreKnown types visited.new.items }
-{
-    if is_last_from(visited, index) {
-        visited.pop();
-    }
-}
-
-/// Whether the row of the last one of these comparisons has this index or a greater one.
-fn is_last_from(visited: &[Known], index: usize) -> bool {
-    match visited.last() {
-        Some(known) => known.index >= index,
-        None => false,
-    }
 }
 
 /// Whether a question is a comparison, whose answers have a row.
@@ -142,6 +114,5 @@ pub fn back(trail: &mut Trail) -> Option<(Taken, Way)>
     trail.rows.truncate(left);
     trail.occurrences.truncate(left);
     trail.search.truncate(left);
-    forget(&mut trail.visited, left + 1);
     Some((answer, way))
 }

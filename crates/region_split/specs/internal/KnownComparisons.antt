@@ -13,11 +13,6 @@ use Rattle.region_split.specs.internal.Clashes.{Clash}
 use Rattle.region_split.specs.declared.known_comparisons.Known.{Known}
 use Rattle.region_split.specs.declared.known_comparisons.Recalled.{Recalled}
 
--- The row stands among the others, at this index.
-pub record StandsIn (rows : List Row) (r : Row) (i : ℕ) : Type 0 where
-  pub inside : i < length rows
-  pub same : row_at rows i ≡ r
-
 abbrev pub question_of : Known → Atom
 question_of k = Atom.row (lin_of k.left) k.strict
 
@@ -35,10 +30,10 @@ pub record IsKnownQuestion (types : List Ty) (k : Known) : Type 0 where
 abbrev pub AreKnown : List Ty → List Known → Type 0
 AreKnown types ks = All (IsKnownQuestion types) ks
 
--- The row is that of this answer to the question and stands at the index, and it clashes with the row of the other answer.
+-- The row at the index is that of this answer to the question, and it clashes with the row of the other answer.
 pub record IsRecalled (types : List Ty) (rows : List Row) (q : Atom) (r : Recalled) : Type 0 where
-  pub own : IsRowOf types q r.held r.row
-  pub stands_in : StandsIn rows r.row r.index
+  pub inside : r.index < length rows
+  pub own : IsRowOf types q r.held (row_at rows r.index)
   pub other : Row
   pub others : IsRowOf types q (not r.held) other
-  pub clash : Clash r.row other
+  pub clash : Clash (row_at rows r.index) other

@@ -1,5 +1,5 @@
 -- A question whose row the path has already.
-use Rattle.std.specs.Prelude.{◌≡◌, List, [], ◌∷◌, ◌++◌, true, false, None}
+use Rattle.std.specs.Prelude.{◌≡◌, List, [], ◌∷◌, ◌++◌, Bool, true, false, None}
 use Rattle.heylo_formula.specs.Goals.{Goal}
 use Rattle.heylo_formula.specs.Typing.{types_in}
 use Rattle.linear_form.specs.Query.{Atom, Taken, onto}
@@ -51,8 +51,7 @@ IsBoth g ps q t (B.Unknown cause) = EndsWalk g ps false cause
 -- A question of a front that is kept, and with each answer the path is at no end.
 pub record IsAsked (g : Goal) (ps : List Taken) (q : Atom) : Type 0 where
   pub goes_on : GoesOn g ps q
-  pub lasts_yes : IsNoEnd g (onto ps q true)
-  pub lasts_no : IsNoEnd g (onto ps q false)
+  pub lasts : (held : Bool) → IsNoEnd g (onto ps q held)
 
 -- The question may be new; or with one of its answers the path is kept and with the other one it's dropped; or the walk ends.
 abbrev pub IsRepeat : Goal → List Taken → Atom → Trail → Repeat → Type 0

@@ -45,7 +45,7 @@ pub record Comes (g : Goal) (t : Trail) : Type 0 where
   pub rows : AreRowsSoFar g (path_of t.path.items) t.rows.items
   pub occurrences : AreOccurrences (length g.types) t.rows.items t.occurrences
   pub remembers : Remembers t.search.value t.rows.items
-  pub known : AreKnown g.types t.visited.items
+  pub known : AreKnown g.types t.atoms
 
 -- The trail stands at a front: each comparison of its path has its row.
 pub record Stands (g : Goal) (t : Trail) : Type 0 where
@@ -53,7 +53,7 @@ pub record Stands (g : Goal) (t : Trail) : Type 0 where
   pub rows : ArePathRows g (path_of t.path.items) t.rows.items
   pub occurrences : AreOccurrences (length g.types) t.rows.items t.occurrences
   pub remembers : Remembers t.search.value t.rows.items
-  pub known : AreKnown g.types t.visited.items
+  pub known : AreKnown g.types t.atoms
 
 -- The trail stands at this path.
 pub record StandsAt (g : Goal) (ps : List Taken) (t : Trail) : Type 0 where

@@ -15,11 +15,11 @@ next_row-requires-clause-rows c =
     let answer = c.in-Some.answer.now in
     rows_before_last (goal_of c.args.goal.now) (path_of c.args.path.now) (path_of before) (taken_of answer) c.args.rows.items c.requires.rows (path_split c.args.path.now before answer c.in-Some.ensures.cases.0)
 
-pub returns-in_ok-push-in-Some-row_of_last : goal.returns-in_ok-push-in-Some-row_of_last
-returns-in_ok-push-in-Some-row_of_last c =
+pub returns-in_ok-push-in-Some-row_of : goal.returns-in_ok-push-in-Some-row_of
+returns-in_ok-push-in-Some-row_of c =
     let g = goal_of c.args.goal.now in
     let before = c.in-Some.field-0-1.now in
     let answer = c.in-Some.answer.now in
     let e = path_split c.args.path.now before answer c.in-Some.ensures.cases.0 in
-    let k = rw c.in-Some-row_of_last.is at (c.row_of_last.ensures g.types c.requires.known) in
-    (last_row_known g (path_of c.args.path.now) (path_of before) (atom_of answer.atom) answer.held c.args.rows.items c.push.new.self.items c.in-Some-row_of_last.row.now _ c.requires.rows e k c.in_ok-copy_row-in-Some-row_of_last.ensures c.in_ok-push-in-Some-row_of_last.ensures.items).are_rows
+    let k = rw c.in-Some-row_of.is at (c.row_of.ensures g.types c.requires.known) in
+    (last_row_known g (path_of c.args.path.now) (path_of before) (atom_of answer.atom) answer.held c.args.rows.items c.push.new.self.items c.in-Some-row_of.row.now _ c.requires.rows e k c.in_ok-copy_row-in-Some-row_of.ensures c.in_ok-push-in-Some-row_of.ensures.items).are_rows

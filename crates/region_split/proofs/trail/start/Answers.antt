@@ -15,4 +15,4 @@ returns c =
     let l = c.args.goal.now.vars.ok.0 in
     let e : c.len.result ≡ length c.args.goal.now.vars.items = omega (arith, n, l) in
     let o = subst (λ count. AreOccurrences count [] c.in_ok-new.field-0) e c.in_ok-new.ensures in
-    (comes_first (goal_of c.args.goal.now) _ c.in_ok-begin.field-0 c.in_ok-begin.ensures c.new.ensures.items (c.in_ok-push.ensures.items ∙ ap (λ xs. xs ++ (Open c.in_ok-begin.field-0 ∷ [])) c.new-places.ensures.items) c.new-2.ensures.items o (λ rows. subst (λ s. Remembers s rows) (sym c.in_ok-new-2.ensures.ok) (c.new-5.ensures rows)) (subst (AreKnown (goal_of c.args.goal.now).types) (sym c.new-3.ensures.items) (All-nil (IsKnownQuestion (goal_of c.args.goal.now).types))), ap path_of c.new.ensures.items)
+    (comes_first (goal_of c.args.goal.now) _ c.in_ok-begin.field-0 c.in_ok-begin.ensures c.new.ensures.items (c.in_ok-push.ensures.items ∙ ap (λ xs. xs ++ (Open c.in_ok-begin.field-0 ∷ [])) c.new-places.ensures.items) c.new-2.ensures.items o (λ rows. subst (λ s. Remembers s rows) (sym c.in_ok-new-2.ensures.ok) (c.new-5.ensures rows)) (subst (AreKnown (goal_of c.args.goal.now).types) (sym c.new-3.ensures) (All-nil (IsKnownQuestion (goal_of c.args.goal.now).types))), ap path_of c.new.ensures.items)

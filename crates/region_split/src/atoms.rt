@@ -1,0 +1,152 @@
+//! The comparisons that a walk has met, by number.
+
+ghost use Rattle.std.specs.Prelude.{◌≡◌, [], List, true, false, IfOk, IfSome};
+ghost use Rattle.heylo_formula.specs.declared.types.Ty.{Ty as PlainTy};
+ghost use Rattle.linear_form.specs.PlainPaths.{atom_of};
+ghost use Rattle.region_split.specs.internal.KnownComparisons.{AreKnown, IsKnownQuestion, IsRecalled, IsRowOf, question_of};
+
+use crate::answer_rows::AnswerRows;
+use crate::known_comparisons::{Known, Recalled, answer, asks, make_known, row_of};
+use heyvl_num::Frac;
+use indexmap::IndexMap;
+use linear_form::{Atom, Taken};
+use linear_rows::Row;
+use linear_values::Lin;
+use std::alloc::{AllocError, Global};
+use std::marker::Model;
+
+/// The comparisons that a walk has met, with the rows of both answers. Each keeps its number.
+#[derive(Drop)]
+pub struct Atoms {
+    known: Vec<Known>,
+    /// By the number of the first comparison that has a row, the index at which a path has the row. It may be that of an earlier path:
+    /// what stands there is compared.
+    indexes: Vec<usize>,
+    /// By fingerprint, the number of the first comparison that has it, or whose row has it. No clause rests on it: what it gives is
+    /// compared.
+    numbers: IndexMap<u128, usize>,
+}
+
+impl Model for Atoms {
+    ghost use Rattle.std.specs.Prelude.{List};
+    ghost use Rattle.region_split.specs.declared.known_comparisons.Known.{Known as KnownValue};
+
+    ghost Value = { List KnownValue };
+
+    ghost view = { λ a. a.known.items };
+}
+
+/// An odd number whose bits look random: 2^128 over the golden ratio.
+const MULTIPLIER: u128 = 0x9e37_79b9_7f4a_7c15_f39c_c060_5ced_c835;
+
+/// A number with another one mixed into it.
+fn mixed(number: u128, next: u128) -> u128 {
+    (number ^ next).wrapping_mul(MULTIPLIER)
+}
+
+/// A number with a fraction mixed into it.
+fn with_fraction(number: u128, fraction: &Frac) -> u128 {
+    let half = mixed(number, fraction.num().cast_unsigned());
+    mixed(half, fraction.den().cast_unsigned())
+}
+
+/// The fingerprint of a comparison: a number that comparisons of the same value have in common, and others rarely have.
+fn of_value(left: &Lin, strict: bool) -> u128 {
+    let mut found = with_fraction(u128::from(strict), &left.rest);
+    for term in &left.terms {
+        found = with_fraction(mixed(found, u128::from(term.0)), &term.1);
+    }
+    found
+}
+
+/// The fingerprint of a row, in the same way.
+fn of_row(row: &Row) -> u128 {
+    let rest = i128::from(row.rest).cast_unsigned();
+    let mut found = mixed(u128::from(row.strict), rest);
+    for term in &row.terms {
+        let weight = i128::from(term.1).cast_unsigned();
+        found = mixed(mixed(found, u128::from(term.0)), weight);
+    }
+    found
+}
+
+impl Atoms {
+    /// None.
+    pub fn new(alloc: Global) -> Atoms
+        ensures { result ≡ [] }
+    {
+        Atoms {
+            known: Vec::new(alloc),
+            indexes: Vec::new(alloc),
+            numbers: IndexMap::new(alloc),
+        }
+    }
+
+    /// The comparison, where the walk has met it.
+    pub fn find(&self, atom: &Atom) -> Option<&Known>
+        ensures { (types : List PlainTy) → AreKnown types self.now → IfSome result (λ k. IsKnownQuestion types k.now × (question_of k.now ≡ atom_of atom.now)) }
+    {
+        let Atom::Row(left, strict) = atom else {
+            return None;
+        };
+        let Some(number) = self.numbers.get(&of_value(left, *strict)) else {
+            return None;
+        };
+        let Some(known) = self.known.get(*number) else {
+            return None;
+        };
+        if asks(known, atom) { Some(known) } else { None }
+    }
+
+    /// The row of an answer, where the walk has met its question.
+    pub fn row_of(&self, answer: &Taken) -> Option<&Row>
+        ensures { (types : List PlainTy) → AreKnown types self.now → IfSome result (λ r. IsRowOf types (atom_of answer.now.atom) answer.now.held r.now) }
+    {
+        match self.find(&answer.atom) {
+            Some(known) => Some(row_of(known, answer.held)),
+            None => None,
+        }
+    }
+
+    /// Takes in one more comparison with the rows of both answers, where these clash. Want of memory is the one error.
+    pub fn add(&mut self, alloc: Global, atom: &Atom, rows: AnswerRows) -> Result<(), AllocError>
+        ensures { (types : List PlainTy) → AreKnown types self.old → IsRowOf types (atom_of atom.now) true rows.yes → IsRowOf types (atom_of atom.now) false rows.no → IfOk result (λ _. AreKnown types self.new) }
+    {
+        let number = self.known.len();
+        let first = self
+            .numbers
+            .get(&of_row(&rows.yes))
+            .copied()
+            .unwrap_or(number);
+        let Some(known) = make_known(alloc, atom, rows, first)? else {
+            return Ok(());
+        };
+        self.numbers
+            .insert(of_value(&known.left, known.strict), number)?;
+        self.numbers.insert(of_row(&known.yes), first)?;
+        self.numbers.insert(of_row(&known.no), first)?;
+        self.known.push(known)?;
+        self.indexes.push(0)?;
+        Ok(())
+    }
+
+    /// The answer that a path with these rows has given to the comparison. Where it has given none, what it answers next will have its
+    /// row behind these.
+    pub fn recall(&mut self, atom: &Atom, rows: &[Row]) -> Option<Recalled>
+        ensures known { (types : List PlainTy) → AreKnown types self.old → AreKnown types self.new }
+        ensures recalled { (types : List PlainTy) → AreKnown types self.old → IfSome result (IsRecalled types rows.now (atom_of atom.now)) }
+    {
+        let Some(known) = self.find(atom) else {
+            return None;
+        };
+        let first = known.first;
+        if first >= self.indexes.len() {
+            return None;
+        }
+        let recalled = answer(known, rows, self.indexes[first]);
+        if recalled.is_none() {
+            self.indexes[first] = rows.len();
+        }
+        recalled
+    }
+}
