@@ -3,6 +3,8 @@
 ghost use Rattle.std.specs.Prelude.{◌≡◌, IfOk};
 ghost use Rattle.linear_form.specs.internal.EvaluationCopies.{AskAlike, IsAlike, IsSameEvaluation, IsSameFocus};
 ghost use Rattle.linear_form.specs.internal.Evaluations.{outcome_of};
+ghost use Rattle.linear_form.specs.internal.Outcomes.{Result as Outcomes};
+ghost use Rattle.linear_values.specs.PlainValues.{linear_of};
 
 use crate::kinds::Operation;
 use heylo_graph::NodeId;
@@ -28,13 +30,13 @@ pub(crate) enum Focus {
     Came(Outcome),
 }
 
-/// What a part comes to.
+/// What a part comes to. It is small, since each turn hands it on.
 #[derive(Drop)]
 pub(crate) enum Outcome {
     Number(Option<Lin>),
     Truth(bool),
     /// The values of both forms of the goal.
-    Ends(Option<Lin>, Option<Lin>),
+    Ends(Box<Option<Lin>>, Box<Option<Lin>>),
 }
 
 /// What waits for the outcome of a part.
@@ -96,8 +98,23 @@ fn copy_outcome(alloc: Global, outcome: &Outcome) -> Result<Outcome, AllocError>
     match outcome {
         Outcome::Number(x) => Ok(Outcome::Number(copy_value(alloc, x)?)),
         Outcome::Truth(t) => Ok(Outcome::Truth(*t)),
-        Outcome::Ends(x, y) => Ok(Outcome::Ends(copy_value(alloc, x)?, copy_value(alloc, y)?)),
+        Outcome::Ends(x, y) => both_values(alloc, x, y),
     }
+}
+
+/// The outcome that is these two values.
+pub(crate) fn both_values(
+    alloc: Global,
+    stated: &Option<Lin>,
+    found: &Option<Lin>,
+) -> Result<Outcome, AllocError>
+    ensures { IfOk result (λ o. outcome_of o ≡ Outcomes.ends (linear_of stated.now, linear_of found.now)) }
+{
+    let stated = copy_value(alloc, stated)?;
+    let found = copy_value(alloc, found)?;
+    let one = Box::new(alloc, stated)?;
+    let other = Box::new(alloc, found)?;
+    Ok(Outcome::Ends(one, other))
 }
 
 fn copy_frame(alloc: Global, frame: &Frame) -> Result<Frame, AllocError>

@@ -18,7 +18,7 @@ ghost use Rattle.linear_form.specs.internal.Evaluations.{outcome_of, IsKeptOutco
 ghost use Rattle.linear_form.specs.internal.NodeSteps.{Comes, Turns, IsTurn};
 
 use crate::cursor::{Stop, truth};
-use crate::evaluations::{Branch, Frame, Outcome};
+use crate::evaluations::{Branch, Frame, Outcome, both_values};
 use crate::kinds::{Kind, kind_of};
 use crate::operations::{Came, number_came, operated, truth_came};
 use crate::operators::{nothing, number, scale, unit};
@@ -140,9 +140,8 @@ fn number_turn(
             Ok(Turn::Part(*id, Frame::Found(stated)))
         }
         Frame::Found(a) => {
-            let stated = copy_value(alloc, a)?;
-            let found = copy_value(alloc, x)?;
-            Ok(outcome_there(Outcome::Ends(stated, found), at))
+            let ends = both_values(alloc, a, x)?;
+            Ok(outcome_there(ends, at))
         }
         Frame::Choice(_, _) => Err(Stop::Bits),
         Frame::Same(_) => Err(Stop::Bits),

@@ -18,7 +18,7 @@ use Rattle.linear_form.specs.declared.evaluations.Outcome as O
 abbrev pub outcome_of : O.Outcome → Result
 outcome_of (O.TheVariants.Number x) = Result.number (linear_of x)
 outcome_of (O.TheVariants.Truth t) = Result.truth t
-outcome_of (O.TheVariants.Ends x y) = Result.ends (linear_of x, linear_of y)
+outcome_of (O.TheVariants.Ends x y) = Result.ends (linear_of x.value, linear_of y.value)
 
 -- A value that comes has terms that grow, and small numbers.
 abbrev pub IsKeptOutcome : O.Outcome → Type 0

@@ -19,4 +19,4 @@ pub returns-in-Truth : goal.returns-in-Truth
 returns-in-Truth c = λ ns. subst (λ o. Turns ns (path_of c.args.path.now) (resumed ns c.args.frame.now (outcome_of o)) c.args.at (frame_weight ns c.args.frame.now) c.truth_turn.result) (sym c.in-Truth.is) (c.truth_turn.ensures ns (path_of c.args.path.now))
 
 pub returns-in-Ends : goal.returns-in-Ends
-returns-in-Ends c = λ ns. ap (λ o. along (path_of c.args.path.now) (resumed ns c.args.frame.now (outcome_of o)) c.args.at) c.in-Ends.is ∙ ap (λ q. along (path_of c.args.path.now) q c.args.at) (no_ends ns c.args.frame.now (linear_of c.in-Ends.field-0, linear_of c.in-Ends.field-1)) ∙ run_bits (path_of c.args.path.now) c.args.at
+returns-in-Ends c = λ ns. ap (λ o. along (path_of c.args.path.now) (resumed ns c.args.frame.now (outcome_of o)) c.args.at) c.in-Ends.is ∙ ap (λ q. along (path_of c.args.path.now) q c.args.at) (no_ends ns c.args.frame.now (linear_of c.in-Ends.field-0.value, linear_of c.in-Ends.field-1.value)) ∙ run_bits (path_of c.args.path.now) c.args.at

@@ -1,4 +1,4 @@
-use Rattle.std.proofs.Common.{ap, ap₂, sym, subst, arith, refl}
+use Rattle.std.proofs.Common.{ap, sym, subst, arith, refl}
 use Rattle.std.specs.Prelude.{None, Ok}
 use Rattle.linear_values.specs.Kept.{IsKeptValue}
 use Rattle.linear_values.specs.PlainValues.{linear_of}
@@ -6,7 +6,7 @@ use Rattle.linear_form.specs.Query.{next}
 use Rattle.linear_form.specs.Query.Query.{done}
 use Rattle.linear_form.specs.Questions.{scale}
 use Rattle.linear_form.specs.PlainPaths.{path_of}
-use Rattle.linear_form.specs.internal.Outcomes.{Result, of_number, valued}
+use Rattle.linear_form.specs.internal.Outcomes.{Result, IsKeptResult, of_number, valued}
 use Rattle.linear_form.specs.internal.NodeQuestions.{asks_at, operation}
 use Rattle.linear_form.specs.declared.evaluations.Frame.TheVariants as Frame
 use Rattle.linear_form.proofs.KeptOperations.{operation_kept, scaled_kept}
@@ -31,8 +31,8 @@ returns-in-Scaled c = λ ns. frame_turns ns (path_of c.args.path.now) c.come-in-
 pub returns-in_ok-stated-in-Stated : goal.returns-in_ok-stated-in-Stated
 returns-in_ok-stated-in-Stated c = λ ns. part_turn ns (path_of c.args.path.now) c.args.frame.now _ (Frame.Found c.in_ok-stated-in-Stated.stated) (Result.number (linear_of c.args.x.now)) c.args.at c.in-Stated.id c.in-Stated.is (ap (λ z. next (asks_at ns c.in-Stated.id) (of_number (λ y. done (Result.ends (z, y))))) (sym c.in_ok-stated-in-Stated.ensures)) tt (omega arith)
 
-pub returns-in_ok-found-in-Found : goal.returns-in_ok-found-in-Found
-returns-in_ok-found-in-Found c = λ ns. frame_turns ns (path_of c.args.path.now) (Ok c.outcome_there.result) c.args.frame.now _ (Result.number (linear_of c.args.x.now)) c.args.at c.in-Found.is (c.outcome_there.ensures ns (path_of c.args.path.now) _ 1 (ap₂ (λ x y. done (Result.ends (x, y))) (sym c.in_ok-stated-in-Found.ensures) (sym c.in_ok-found-in-Found.ensures)) tt (omega arith))
+pub returns-in_ok-ends-in-Found : goal.returns-in_ok-ends-in-Found
+returns-in_ok-ends-in-Found c = λ ns. frame_turns ns (path_of c.args.path.now) (Ok c.outcome_there.result) c.args.frame.now _ (Result.number (linear_of c.args.x.now)) c.args.at c.in-Found.is (c.outcome_there.ensures ns (path_of c.args.path.now) _ 1 (ap done (sym c.in_ok-ends-in-Found.ensures)) (subst IsKeptResult (sym c.in_ok-ends-in-Found.ensures) tt) (omega arith))
 
 pub returns-in-Choice : goal.returns-in-Choice
 returns-in-Choice c = λ ns. not_waited_for ns (path_of c.args.path.now) c.args.frame.now _ (Result.number (linear_of c.args.x.now)) c.args.at c.in-Choice.is refl
