@@ -46,6 +46,7 @@ mod NodeRuns
 mod NodeFrames
 mod FrameTurns
 mod EnteredNodes
+mod NotedComparisons
 mod NotedValues
 mod NodesThatAsk
 mod FramesThatAsk

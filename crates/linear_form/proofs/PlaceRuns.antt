@@ -10,13 +10,14 @@ use Rattle.linear_form.specs.Paths.{end_at}
 use Rattle.linear_form.specs.Questions.{all_questions, evaluate, questions}
 use Rattle.linear_form.specs.Standings.{Standing}
 use Rattle.heylo_graph.specs.declared.nodes.Node.{Node}
-use Rattle.linear_form.specs.internal.NodeTables.{AreValues}
+use Rattle.linear_form.specs.internal.NodeTables.{AreComparisons, AreValues}
 use Rattle.linear_form.specs.internal.Outcomes.{Result, of_number}
 use Rattle.linear_form.specs.internal.NodeQuestions.{asks_at, asked_if}
 use Rattle.linear_form.specs.internal.Frames.{IsKeptFrame, AreKeptFrames}
 use Rattle.linear_form.specs.internal.Evaluations.{ended, through}
 use Rattle.linear_form.specs.Places.{IsOn}
 use Rattle.linear_form.specs.declared.goal_graph.GoalGraph.{GoalGraph}
+use Rattle.linear_form.specs.declared.noted_comparisons.Comparison.{Comparison}
 use Rattle.linear_values.specs.declared.lin.Lin.{Lin}
 use Rattle.std.specs.Prelude.{Option}
 use Rattle.linear_form.specs.declared.evaluations.Frame as W
@@ -47,3 +48,6 @@ begins_kept all before f i n k = subst AreKeptFrames (sym (i ∙ ap (λ fs. fs +
 -- what is noted of the graph's nodes, read through references to it
 pub values_there : (q g h : GoalGraph) (vs : List (Option Lin)) → g ≡ q → h ≡ q → vs ≡ h.values.items → AreValues q.graph q.values.items → AreValues g.graph vs
 values_there q g h vs e f k a = subst (λ (g : GoalGraph). AreValues g.graph vs) (sym e) (subst (AreValues q.graph) (sym (k ∙ ap (λ (h : GoalGraph). h.values.items) f)) a)
+
+pub comparisons_there : (q g h : GoalGraph) (cs : List (Option Comparison)) → g ≡ q → h ≡ q → cs ≡ h.comparisons.items → AreComparisons q.graph q.comparisons.items → AreComparisons g.graph cs
+comparisons_there q g h cs e f k a = subst (λ (g : GoalGraph). AreComparisons g.graph cs) (sym e) (subst (AreComparisons q.graph) (sym (k ∙ ap (λ (h : GoalGraph). h.comparisons.items) f)) a)

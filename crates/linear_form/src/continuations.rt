@@ -67,7 +67,14 @@ pub fn go_on_from(
     let Place { graph, evaluation } = place;
     let mut now = evaluation;
     'steps: loop {
-        match advance(alloc, &graph.graph, &graph.values, &mut now, path)? {
+        match advance(
+            alloc,
+            &graph.graph,
+            &graph.values,
+            &graph.comparisons,
+            &mut now,
+            path,
+        )? {
             Step::On => {}
             Step::Asks(atom) => {
                 let ask = Ask::Decide(Box::into_inner(atom));

@@ -5,6 +5,7 @@ ghost use Rattle.heylo_formula.specs.Goals.{goal_of};
 ghost use Rattle.linear_form.specs.internal.GoalGraphs.{IsGraphOf};
 
 use crate::asking_nodes::asking_nodes;
+use crate::noted_comparisons::{Comparison, noted_comparisons};
 use crate::plain_values::plain_values;
 use heylo_formula::Goal;
 use heylo_graph::{Graph, NodeId};
@@ -21,6 +22,8 @@ pub(crate) struct GoalGraph {
     pub values: Vec<Option<Lin>>,
     /// Whether each evaluation of a node surely asks a comparison, by its number.
     pub asking: Vec<bool>,
+    /// The comparisons that nodes ask of noted values, by their numbers, as far as they are noted.
+    pub comparisons: Vec<Option<Comparison>>,
 }
 
 /// The goal in a graph of its own.
@@ -32,11 +35,13 @@ pub(crate) fn goal_graph(alloc: Global, goal: &Goal) -> Result<GoalGraph, AllocE
     let found = graph.put(&goal.found)?;
     let values = plain_values(alloc, &graph)?;
     let asking = asking_nodes(alloc, &graph, &values)?;
+    let comparisons = noted_comparisons(alloc, &graph, &values)?;
     Ok(GoalGraph {
         graph,
         stated,
         found,
         values,
         asking,
+        comparisons,
     })
 }

@@ -14,6 +14,7 @@ mod growing_rows;
 mod kinds;
 mod known_truths;
 mod node_steps;
+mod noted_comparisons;
 mod operations;
 mod operators;
 mod path_ends;

@@ -8,15 +8,16 @@ ghost use Rattle.linear_form.specs.PlainPaths.{path_of};
 ghost use Rattle.linear_form.specs.internal.Run.{along};
 ghost use Rattle.linear_form.specs.internal.EvaluationResults.{Stops};
 ghost use Rattle.linear_form.specs.internal.Outcomes.{Result as Outcomes};
-ghost use Rattle.linear_form.specs.internal.NodeTables.{AreValues};
+ghost use Rattle.linear_form.specs.internal.NodeTables.{AreComparisons, AreValues};
 ghost use Rattle.linear_form.specs.internal.Frames.{AreKeptFrames, frames_weight};
-ghost use Rattle.linear_form.specs.internal.Evaluations.{outcome_of, asked_by, through, left_at, weight, IsKeptFocus};
-ghost use Rattle.linear_form.specs.internal.NodeSteps.{Steps, IsTurn};
+ghost use Rattle.linear_form.specs.internal.Evaluations.{outcome_of, asked_by, focus_weight, through, left_at, weight, IsKeptFocus};
+ghost use Rattle.linear_form.specs.internal.NodeSteps.{Steps, IsTurn, Turns};
 ghost use Rattle.linear_form.specs.declared.evaluations.Evaluation.{Evaluation as PlainEvaluation};
 ghost use Rattle.linear_form.specs.declared.evaluations.Frame.{Frame as PlainFrame};
 
 use crate::cursor::Stop;
 use crate::evaluations::{Evaluation, Focus, Outcome};
+use crate::noted_comparisons::Comparison;
 use crate::paths::{Atom, Taken};
 use crate::turns::{Turn, frame_turn, node_turn};
 use heylo_graph::Graph;
@@ -41,19 +42,21 @@ pub(crate) fn advance(
     alloc: Global,
     graph: &Graph,
     values: &[Option<Lin>],
+    comparisons: &[Option<Comparison>],
     place: &mut Evaluation,
     path: &[Taken],
 ) -> Result<Step, AllocError>
     requires values { AreValues graph.now values.now }
+    requires comparisons { AreComparisons graph.now comparisons.now }
     requires focus { IsKeptFocus place.old.focus }
     requires frames { AreKeptFrames place.old.frames.items }
     ensures { IfOk result (Steps graph.now (path_of path.now) (left_at graph.now place.old) place.old.at (weight graph.now place.old) place.new) }
 {
     match &place.focus {
-        Focus::Node(id) => match node_turn(alloc, graph, values, *id, path, place.at) {
-            Ok(turn) => turned(place, turn),
-            Err(stop) => stopped(stop),
-        },
+        Focus::Node(id) => {
+            let turn = node_turn(alloc, graph, values, comparisons, *id, path, place.at);
+            went(place, turn)
+        }
         Focus::Came(outcome) => match place.frames.pop() {
             None => ended(alloc, outcome),
             Some(frame) => match frame_turn(alloc, &frame, outcome, path, place.at) {
@@ -64,6 +67,18 @@ pub(crate) fn advance(
                 }
             },
         },
+    }
+}
+
+/// Goes on with what is evaluated next at the focus, or stops there.
+fn went(place: &mut Evaluation, turn: Result<Turn, Stop>) -> Result<Step, AllocError>
+    requires focus { IsKeptFocus place.old.focus }
+    requires frames { AreKeptFrames place.old.frames.items }
+    ensures { (ns : List NodeValue) (ps : List PlainTaken) → Turns ns ps (asked_by ns place.old.focus) place.old.at (focus_weight ns place.old.focus) turn → IfOk result (Steps ns ps (left_at ns place.old) place.old.at (weight ns place.old) place.new) }
+{
+    match turn {
+        Ok(turn) => turned(place, turn),
+        Err(stop) => stopped(stop),
     }
 }
 

@@ -13,13 +13,14 @@ ghost use Rattle.linear_form.specs.internal.Outcomes.{Result as Outcomes, IsKept
 ghost use Rattle.linear_form.specs.internal.NodeQuestions.{asks_at, node_weight};
 ghost use Rattle.linear_form.specs.internal.Frames.{branch_asks, branch_weight, resumed, frame_weight, IsKeptFrame};
 ghost use Rattle.linear_form.specs.internal.KindQuestions.{kind_asks, kind_weight, IsKeptKind};
-ghost use Rattle.linear_form.specs.internal.NodeTables.{AreValues, AreKeptValues};
+ghost use Rattle.linear_form.specs.internal.NodeTables.{AreValues, AreKeptValues, AreComparisons};
 ghost use Rattle.linear_form.specs.internal.Evaluations.{outcome_of, IsKeptOutcome};
 ghost use Rattle.linear_form.specs.internal.NodeSteps.{Comes, Turns, IsTurn};
 
 use crate::cursor::{Stop, truth};
 use crate::evaluations::{Branch, Frame, Outcome, both_values};
 use crate::kinds::{Kind, kind_of};
+use crate::noted_comparisons::{Comparison, compared_on, comparison_at};
 use crate::operations::{Came, number_came, operated, truth_came};
 use crate::operators::{nothing, number, scale, unit};
 use crate::paths::Taken;
@@ -39,18 +40,23 @@ pub(crate) enum Turn {
     Came(Came),
 }
 
-/// What the node does. Where its value is noted, it comes to this at once.
+/// What the node does. Where its value is noted, it comes to this at once; a comparison that is noted is asked.
 pub(crate) fn node_turn(
     alloc: Global,
     graph: &Graph,
     values: &[Option<Lin>],
+    comparisons: &[Option<Comparison>],
     id: NodeId,
     path: &[Taken],
     at: usize,
 ) -> Result<Turn, Stop>
-    requires { AreValues graph.now values.now }
+    requires values { AreValues graph.now values.now }
+    requires comparisons { AreComparisons graph.now comparisons.now }
     ensures { Turns graph.now (path_of path.now) (asks_at graph.now id) at (node_weight graph.now id) result }
 {
+    if let Some(question) = comparison_at(comparisons, id) {
+        return come(truth_came(compared_on(alloc, question, path, at)));
+    }
     if let Some(x) = noted(values, id) {
         let value = copy_value(alloc, x)?;
         return Ok(outcome_there(Outcome::Number(value), at));

@@ -8,7 +8,7 @@ use Rattle.linear_form.specs.internal.Evaluations.{standing, IsKeptFocus}
 use Rattle.linear_form.specs.internal.Frames.{AreKeptFrames}
 use Rattle.linear_form.specs.internal.Run.Evaluation.{value, decide}
 use Rattle.linear_form.proofs.NodeRuns.{moved}
-use Rattle.linear_form.proofs.PlaceRuns.{values_there}
+use Rattle.linear_form.proofs.PlaceRuns.{comparisons_there, values_there}
 use Rattle.linear_form.proofs.EndAnswers.{on_decides, on_ends, on_bits, end_asked, end_on}
 use Rattle.linear_form.proofs.continuations.go_on_from.Goals as goal
 
@@ -17,6 +17,9 @@ steps-init c = record { on = subst (IsOn (goal_of c.args.goal.now) (path_of c.ar
 
 pub advance-requires-clause-values : goal.advance-requires-clause-values
 advance-requires-clause-values c = values_there c.place.inside.graph.value c.deref.result.now c.deref-in-steps.result.now c.deref-in-steps-2.result.now c.deref.ensures c.deref-in-steps.ensures c.deref-in-steps-2.ensures.value c.steps.invariant.tables.values
+
+pub advance-requires-clause-comparisons : goal.advance-requires-clause-comparisons
+advance-requires-clause-comparisons c = comparisons_there c.place.inside.graph.value c.deref.result.now c.deref-in-steps-3.result.now c.deref-in-steps-4.result.now c.deref.ensures c.deref-in-steps-3.ensures c.deref-in-steps-4.ensures.value c.steps.invariant.tables.comparisons
 
 pub advance-requires-clause-focus : goal.advance-requires-clause-focus
 advance-requires-clause-focus c = subst (λ e. IsKeptFocus e.focus) (sym c.deref_mut.ensures.value) c.steps.invariant.kept.0
