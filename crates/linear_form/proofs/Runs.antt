@@ -4,7 +4,7 @@ use Prim.Native.Nat.{zero, suc}
 use Rattle.std.specs.Prelude.{Option, Some, None, Result, Err}
 use Rattle.linear_form.specs.Query.{Query, Atom, Taken, next, known}
 use Rattle.linear_form.specs.Query.Query.{done, bits, ask}
-use Rattle.linear_values.specs.Lin.{Linear}
+use Rattle.linear_values.specs.Lin.{Lin, Linear}
 use Rattle.linear_form.specs.QuestionLaws.{EachResult}
 use Rattle.linear_form.specs.internal.Run.{Evaluation, along, turned, heard, onward}
 use Rattle.linear_form.specs.internal.Run.Evaluation.{value, decide}
@@ -62,6 +62,10 @@ run_known ps x i false e = rw e
 pub run_new : (ps : List Taken) (x i : ℕ) → known x (take i ps) ≡ None → along ps (ask (Atom.truth x) (done true) (done false)) i ≡ turned (drop i ps) (Atom.truth x) (value true (i + 1)) (value false (i + 1))
 unfolding along
 run_new ps x i e = rw e
+
+pub run_row : (ps : List Taken) (a : Lin) (strict : Bool) (i : ℕ) → along ps (ask (Atom.row a strict) (done true) (done false)) i ≡ turned (drop i ps) (Atom.row a strict) (value true (i + 1)) (value false (i + 1))
+unfolding along
+run_row ps a strict i = refl
 
 pub turned_at : {A : Type 0} (ps : List T.Taken) (i : ℕ) (p : T.Taken) (q : Atom) (y n : Evaluation A) → i < length ps → p ≡ get_or ps i p → turned (drop i (path_of ps)) q y n ≡ cond p.held y n
 turned_at [] i p q y n h e = absurd (omega arith)

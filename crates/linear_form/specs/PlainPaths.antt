@@ -1,7 +1,6 @@
 -- The questions and paths that the program holds, without their pointers.
 use Rattle.std.specs.Prelude.{List, map}
 use Rattle.linear_form.specs.Query.{Atom, Taken}
-use Rattle.linear_values.specs.declared.lin.Lin as L
 use Rattle.linear_form.specs.declared.paths.Atom as A
 use Rattle.linear_form.specs.declared.paths.Taken as T
 use Rattle.linear_values.specs.PlainValues.{lin_of}

@@ -8,7 +8,7 @@ ghost use Rattle.linear_form.specs.PlainPaths.{path_of, atom_of};
 ghost use Rattle.linear_form.specs.internal.EvaluationResults.{GivesTruth};
 
 use crate::known_truths::known_truth;
-use crate::paths::{Atom, Taken};
+use crate::paths::{Atom, Taken, copy_atom};
 use linear_values::Lin;
 use std::alloc::{AllocError, Global};
 
@@ -53,8 +53,8 @@ fn boxed(alloc: Global, atom: Atom) -> Result<Box<Atom>, AllocError>
 }
 
 /// The answer of the path to a question, or the question.
-pub fn answered(alloc: Global, atom: Atom, path: &[Taken], at: usize) -> Result<Tested, Stop>
-    ensures { GivesTruth result (turned (drop at (path_of path.now)) (atom_of atom) (Evaluation.value true (at + 1)) (Evaluation.value false (at + 1))) }
+pub fn answered(alloc: Global, atom: &Atom, path: &[Taken], at: usize) -> Result<Tested, Stop>
+    ensures { GivesTruth result (turned (drop at (path_of path.now)) (atom_of atom.now) (Evaluation.value true (at + 1)) (Evaluation.value false (at + 1))) }
 {
     if at < path.len() {
         Ok(Tested {
@@ -62,7 +62,7 @@ pub fn answered(alloc: Global, atom: Atom, path: &[Taken], at: usize) -> Result<
             next: at + 1,
         })
     } else {
-        let question = boxed(alloc, atom)?;
+        let question = boxed(alloc, copy_atom(alloc, atom)?)?;
         Err(Stop::Decide(question))
     }
 }
@@ -74,6 +74,16 @@ pub fn truth(alloc: Global, x: u32, path: &[Taken], at: usize) -> Result<Tested,
 {
     match known_truth(x, path, at) {
         Some(holds) => Ok(Tested { holds, next: at }),
-        None => answered(alloc, Atom::Truth(x), path, at),
+        None => answered(alloc, &Atom::Truth(x), path, at),
+    }
+}
+
+/// The answer to a question: known where the path has decided a Boolean before this place, else the next one of the path.
+pub fn answer(alloc: Global, atom: &Atom, path: &[Taken], at: usize) -> Result<Tested, Stop>
+    ensures { GivesTruth result (along (path_of path.now) (ask (atom_of atom.now) (done true) (done false)) at) }
+{
+    match atom {
+        Atom::Truth(x) => truth(alloc, *x, path, at),
+        Atom::Row(_, _) => answered(alloc, atom, path, at),
     }
 }

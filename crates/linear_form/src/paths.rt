@@ -1,6 +1,11 @@
 //! Questions and answers.
 
+ghost use Rattle.std.specs.Prelude.{◌≡◌, IfOk};
+ghost use Rattle.linear_form.specs.PlainPaths.{atom_of};
+
 use linear_values::Lin;
+use linear_values::lin::copy;
+use std::alloc::{AllocError, Global};
 
 /// A question about a state.
 #[derive(Drop)]
@@ -16,4 +21,14 @@ pub enum Atom {
 pub struct Taken {
     pub atom: Atom,
     pub held: bool,
+}
+
+/// The same question again. Want of memory is the one error.
+pub fn copy_atom(alloc: Global, atom: &Atom) -> Result<Atom, AllocError>
+    ensures { IfOk result (λ a. atom_of a ≡ atom_of atom.now) }
+{
+    match atom {
+        Atom::Truth(x) => Ok(Atom::Truth(*x)),
+        Atom::Row(left, strict) => Ok(Atom::Row(copy(alloc, left)?, *strict)),
+    }
 }

@@ -1,0 +1,122 @@
+-- Parts of goals, ready to be evaluated: what they ask, and how much there is to do for that.
+use Rattle.std.specs.Prelude.{◌≡◌, ℕ, ◌+◌, Bool, true, false, if◌then◌else◌}
+use Rattle.linear_form.specs.Query.{Query, Atom, next}
+use Rattle.linear_form.specs.Query.Query.{done, bits, ask}
+use Rattle.linear_form.specs.Questions as q
+use Rattle.linear_values.specs.Lin.{Linear}
+use Rattle.linear_form.specs.internal.LastingTrees.{Lasts}
+use Rattle.linear_form.specs.internal.Outcomes.{Result, valued, told, of_number, of_bool, IsKeptResult}
+use Rattle.linear_form.specs.declared.parts.Operation.{Operation}
+
+mutual
+  -- A part: what it does, and whether each evaluation surely asks a comparison.
+  pub data Part : Type 0 where
+    part : Work → Bool → Part
+
+  -- What a part does: nothing, where it is known what it comes to, a question, an operator over one part or two, or a choice.
+  pub data Work : Type 0 where
+    known : Result → Work
+    asks : Atom → Work
+    large : Work
+    one : Operation → Part → Work
+    two : Operation → Part → Part → Work
+    choice : Part → Part → Part → Work
+
+-- What an operator asks of the values of its parts. One with one part looks at the first value alone.
+abbrev pub operation : Operation → Linear → Linear → Query Result
+operation Operation.Sum x y = valued (q.sum x y)
+operation Operation.Difference x y = valued (q.difference x y)
+operation Operation.Cut x y = valued (q.cut x y)
+operation Operation.Product x y = valued (q.product x y)
+operation Operation.Min x y = valued (q.min x y)
+operation Operation.Max x y = valued (q.max x y)
+operation Operation.Imply x y = valued (q.imply x y)
+operation Operation.CoImply x y = valued (q.co_imply x y)
+operation Operation.Validate x y = valued (done (q.validate x))
+operation Operation.CoValidate x y = valued (q.co_validate x)
+operation Operation.AtMost x y = told (q.at_most x y)
+operation Operation.Less x y = told (q.less x y)
+operation Operation.Equal x y = told (q.equal x y)
+operation (Operation.Scale w) x y = valued (q.scale w x)
+operation Operation.Ends x y = done (Result.ends (x, y))
+
+-- The same over what its parts come to, which are values.
+abbrev pub operated : Operation → Result → Result → Query Result
+operated o r s = of_number (λ x. of_number (λ y. operation o x y) s) r
+
+abbrev mutual
+  -- What a part asks, and then comes to.
+  pub asked : Part → Query Result
+  asked (Part.part w b) = asked_by_work w
+
+  -- The same by what it does.
+  pub asked_by_work : Work → Query Result
+  asked_by_work (Work.known r) = done r
+  asked_by_work (Work.asks a) = ask a (done (Result.truth true)) (done (Result.truth false))
+  asked_by_work Work.large = bits
+  asked_by_work (Work.one o p) = next (asked p) (λ r. operated o r r)
+  asked_by_work (Work.two o p u) = next (asked p) (λ r. next (asked u) (λ s. operated o r s))
+  asked_by_work (Work.choice g p u) = next (asked g) (of_bool (λ t. if t then asked p else asked u))
+
+-- What follows once its first part has come to something. A part without parts waits for none.
+abbrev pub after_first : Work → Result → Query Result
+after_first (Work.known r) s = bits
+after_first (Work.asks a) s = bits
+after_first Work.large s = bits
+after_first (Work.one o p) s = operated o s s
+after_first (Work.two o p u) s = next (asked u) (λ r. operated o s r)
+after_first (Work.choice g p u) s = of_bool (λ t. if t then asked p else asked u) s
+
+-- What follows once its second part has come to something too.
+abbrev pub after_second : Work → Result → Result → Query Result
+after_second (Work.known r) s t = bits
+after_second (Work.asks a) s t = bits
+after_second Work.large s t = bits
+after_second (Work.one o p) s t = bits
+after_second (Work.two o p u) s t = operated o s t
+after_second (Work.choice g p u) s t = bits
+
+-- ---- How much there is to do
+
+abbrev mutual
+  -- How much there is to do for a part: more than for its parts and for what follows them.
+  pub part_weight : Part → ℕ
+  part_weight (Part.part w b) = work_weight w
+
+  -- The same by what it does.
+  pub work_weight : Work → ℕ
+  work_weight (Work.known r) = 1
+  work_weight (Work.asks a) = 1
+  work_weight Work.large = 1
+  work_weight (Work.one o p) = 2 + part_weight p
+  work_weight (Work.two o p u) = 3 + (part_weight p + part_weight u)
+  work_weight (Work.choice g p u) = 2 + (part_weight g + (part_weight p + part_weight u))
+
+-- How much is left to do once its first part has come to something.
+abbrev pub later_weight : Work → ℕ
+later_weight (Work.known r) = 1
+later_weight (Work.asks a) = 1
+later_weight Work.large = 1
+later_weight (Work.one o p) = 1
+later_weight (Work.two o p u) = 2 + part_weight u
+later_weight (Work.choice g p u) = 1 + (part_weight p + part_weight u)
+
+-- ---- What is noted of parts
+
+-- Where yes is noted, a comparison is surely asked.
+abbrev pub IsSure : Bool → Query Result → Type 0
+IsSure b t = b ≡ true → Lasts 1 t
+
+abbrev mutual
+  -- What is noted of the part, and of its parts, is so: values have terms that grow, and small numbers.
+  pub IsReady : Part → Type 0
+  IsReady (Part.part w b) = IsSure b (asked_by_work w) × IsReadyWork w
+
+  -- The same by what it does.
+  pub IsReadyWork : Work → Type 0
+  IsReadyWork (Work.known r) = IsKeptResult r
+  IsReadyWork (Work.asks a) = Unit {0}
+  IsReadyWork Work.large = Unit {0}
+  IsReadyWork (Work.one o p) = IsReady p
+  IsReadyWork (Work.two o p u) = IsReady p × IsReady u
+  IsReadyWork (Work.choice g p u) = IsReady g × (IsReady p × IsReady u)
