@@ -4,12 +4,9 @@ pub mod EvaluationResults
 pub mod FurtherRows
 pub mod NormalPaths
 pub mod Outcomes
-pub mod NodeQuestions
-pub mod Frames
-pub mod KindQuestions
-pub mod NodeTables
+pub mod Parts
+pub mod PlainParts
 pub mod Evaluations
-pub mod NodeSteps
-pub mod GoalGraphs
-pub mod EvaluationCopies
+pub mod Steps
+pub mod GoalParts
 pub mod Codes

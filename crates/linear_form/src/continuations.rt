@@ -8,31 +8,30 @@ ghost use Rattle.linear_form.specs.Places.{IsOn};
 ghost use Rattle.linear_form.specs.PlainPaths.{path_of};
 ghost use Rattle.linear_form.specs.declared.questions.Ask.TheVariants.{Bits as BitsAsked};
 
-use crate::evaluations::{Evaluation, Focus, Frame};
-use crate::goal_graph::goal_graph;
-use crate::node_steps::{Step, advance};
+use crate::cursor::Stop;
+use crate::evaluations::{Evaluation, Focus};
+use crate::goal_parts::goal_part;
+use crate::parts::Outcome;
 use crate::paths::Taken;
 use crate::places::{Place, Reached, copy_place};
 use crate::questions::Ask;
+use crate::steps::advance;
 use heylo_formula::Goal;
+use linear_values::lin::copy_value;
 use std::alloc::{AllocError, Global};
-use std::rc::Rc;
 
 /// The evaluation before the first question: the stated form, and then the found one. Want of memory is the one error.
 pub fn begin(alloc: Global, goal: &Goal) -> Result<Place, AllocError>
     ensures { IfOk result (λ p. IsOn (goal_of goal.now) [] p) }
 {
-    let made = goal_graph(alloc, goal)?;
-    let mut frames = Vec::new(alloc);
-    frames.push(Frame::Stated(made.found))?;
+    let whole = goal_part(alloc, goal)?;
     let first = Evaluation {
-        focus: Focus::Node(made.stated),
-        frames,
+        focus: Focus::Part(whole),
+        frames: Vec::new(alloc),
         at: 0,
     };
     let evaluation = Box::new(alloc, first)?;
-    let graph = Rc::new(alloc, made)?;
-    Ok(Place { graph, evaluation })
+    Ok(Place { evaluation })
 }
 
 /// What stands at the end of a path, evaluated on from a place on it. The place that is reached is the one where the next
@@ -48,7 +47,7 @@ pub fn go_on(
     ensures asked { IfOk result (λ r. Answers r.ask (end_at (goal_of goal.now) (path_of path.now))) }
     ensures on { IfOk result (λ r. IsOn (goal_of goal.now) (path_of path.now) r.place) }
 {
-    let now = copy_place(alloc, place)?;
+    let now = copy_place(place)?;
     go_on_from(alloc, goal, now, path)
 }
 
@@ -64,28 +63,29 @@ pub fn go_on_from(
     ensures asked { IfOk result (λ r. Answers r.ask (end_at (goal_of goal.now) (path_of path.now))) }
     ensures on { IfOk result (λ r. IsOn (goal_of goal.now) (path_of path.now) r.place) }
 {
-    let Place { graph, evaluation } = place;
-    let mut now = evaluation;
+    let Place {
+        evaluation: mut now,
+    } = place;
     'steps: loop {
-        match advance(alloc, &graph.graph, &graph.values, &mut now, path)? {
-            Step::On => {}
-            Step::Asks(atom) => {
-                let ask = Ask::Decide(Box::into_inner(atom));
-                let place = Place {
-                    graph,
-                    evaluation: now,
+        match advance(alloc, &mut now, path) {
+            Ok(None) => {}
+            Ok(Some(outcome)) => {
+                let Outcome::Ends(x, y) = outcome else {
+                    return anew(alloc, goal);
                 };
+                let ask = Ask::End(copy_value(alloc, &x)?, copy_value(alloc, &y)?);
+                let place = Place { evaluation: now };
                 return Ok(Reached { ask, place });
             }
-            Step::Ends(stated, found) => {
-                let ask = Ask::End(Box::into_inner(stated), Box::into_inner(found));
-                let place = Place {
-                    graph,
-                    evaluation: now,
-                };
-                return Ok(Reached { ask, place });
-            }
-            Step::Bits => return anew(alloc, goal),
+            Err(stop) => match stop {
+                Stop::Decide(atom) => {
+                    let ask = Ask::Decide(Box::into_inner(atom));
+                    let place = Place { evaluation: now };
+                    return Ok(Reached { ask, place });
+                }
+                Stop::Bits => return anew(alloc, goal),
+                Stop::Memory(e) => return Err(e),
+            },
         }
     }
 }

@@ -1,21 +1,20 @@
 //! Linear questions of a goal along a path, and the rows of a path.
 #![tactic(auto)]
 
-mod asking_nodes;
 mod claim_laws;
 mod continuations;
 mod cursor;
 mod evaluations;
 mod further_questions;
 mod further_rows;
-mod goal_graph;
+mod goal_parts;
 mod goal_products;
 mod growing_rows;
-mod kinds;
 mod known_truths;
-mod node_steps;
+mod node_work;
 mod operations;
 mod operators;
+mod parts;
 mod path_ends;
 mod path_laws;
 mod path_rows;
@@ -23,13 +22,14 @@ mod paths;
 mod place_laws;
 mod places;
 mod plain_ends;
-mod plain_values;
 mod point_laws;
 mod question_laws;
 mod questions;
+mod ready_parts;
 mod row_list_laws;
 mod signs;
 mod splits;
+mod steps;
 mod turns;
 
 pub use claim_laws::{paths_claim_truths, paths_rows_are_met};
@@ -46,7 +46,7 @@ pub use linear_values::{Lin, tightened};
 pub use path_ends::ask;
 pub use path_laws::paths_are_short;
 pub use path_rows::{RowList, rows};
-pub use paths::{Atom, Taken};
+pub use paths::{Atom, Taken, copy_atom};
 pub use place_laws::places_stay;
 pub use places::{Place, Reached};
 pub use plain_ends::holds_plainly;

@@ -11,11 +11,10 @@ ghost use Rattle.linear_values.specs.Kept.{IsKept, IsKeptValue};
 ghost use Rattle.linear_values.specs.PlainValues.{lin_of, linear_of};
 ghost use Rattle.linear_form.specs.PlainPaths.{path_of};
 ghost use Rattle.linear_form.specs.internal.EvaluationResults.{Gives, GivesTruth};
-ghost use Rattle.heyvl_num.specs.ExtendedNumbers.{value_of};
 
 use crate::cursor::{Found, Stop, Tested, answered};
 use crate::paths::{Atom, Taken};
-use heyvl_num::{Ext, Frac};
+use heyvl_num::Frac;
 use linear_values::Lin;
 use linear_values::lin::{constant, copy, copy_value, is_constant, is_sized, minus, plus, scaled};
 use linear_values::multiples::small_multiple;
@@ -34,7 +33,7 @@ fn is_below(alloc: Global, a: Lin, strict: bool, path: &[Taken], at: usize) -> R
             next: at,
         })
     } else {
-        answered(alloc, Atom::Row(a, strict), path, at)
+        answered(alloc, &Atom::Row(a, strict), path, at)
     }
 }
 
@@ -433,13 +432,15 @@ pub(crate) fn co_imply(
 }
 
 /// Infinity where the value is infinity, else 0.
-pub(crate) fn validate(alloc: Global, a: &Option<Lin>) -> Option<Lin>
-    ensures { linear_of result ≡ tree.validate (linear_of a.now) }
+pub(crate) fn validate(alloc: Global, a: &Option<Lin>, at: usize) -> Found
+    ensures value { linear_of result.value ≡ tree.validate (linear_of a.now) }
+    ensures next { result.next ≡ at }
 {
-    match a {
+    let value = match a {
         None => None,
         Some(_) => nothing(alloc),
-    }
+    };
+    Found { value, next: at }
 }
 
 /// 0 where the value is at most 0, else infinity.
@@ -458,21 +459,6 @@ pub(crate) fn co_validate(
             next: at,
         }),
         Some(x) => infinite_product(alloc, x, path, at),
-    }
-}
-
-/// A constant.
-#[tactic(auto, unfolding(crate::specs::internal::Run::along))]
-#[inline(never)]
-pub(crate) fn number(alloc: Global, v: &Ext, at: usize) -> Result<Found, Stop>
-    ensures { (ps : List PlainTaken) → Gives result (along ps (tree.sized (tree.number (value_of v.now))) at) }
-{
-    match v {
-        Ext::Inf => Ok(Found {
-            value: None,
-            next: at,
-        }),
-        Ext::Fin(x) => sized(constant(alloc, *x), at),
     }
 }
 

@@ -2,18 +2,15 @@
 
 ghost use Rattle.std.specs.Prelude.{◌≡◌, IfOk};
 
-use crate::evaluations::{Evaluation, copy_evaluation};
-use crate::goal_graph::GoalGraph;
+use crate::evaluations::Evaluation;
 use crate::questions::Ask;
-use std::alloc::{AllocError, Global};
+use std::alloc::AllocError;
 use std::marker::Model;
-use std::rc::Rc;
 
 /// A place of a path, at which an evaluation of a goal stands. Contracts see what is left to ask there, and how many answers of
-/// the path are behind it. The places of one goal share its graph. A place is small, since walks hand it on at each question.
+/// the path are behind it. A place is small, since walks hand it on at each question.
 #[derive(Drop)]
 pub struct Place {
-    pub(crate) graph: Rc<GoalGraph, Global>,
     pub(crate) evaluation: Box<Evaluation>,
 }
 
@@ -25,12 +22,11 @@ impl Model for Place {
 
     ghost coded = { standing_code };
 
-    ghost use Rattle.linear_form.specs.internal.Evaluations.{standing, IsKeptEvaluation};
-    ghost use Rattle.linear_form.specs.internal.GoalGraphs.{HasTables};
+    ghost use Rattle.linear_form.specs.internal.Evaluations.{standing, IsReadyEvaluation};
 
-    ghost view = { λ p. standing p.graph.value.graph p.evaluation.value };
+    ghost view = { λ p. standing p.evaluation.value };
 
-    ghost invariant = { λ p. HasTables p.graph.value × IsKeptEvaluation p.evaluation.value };
+    ghost invariant = { λ p. IsReadyEvaluation p.evaluation.value };
 }
 
 /// What stands at the end of a path, and the place that the evaluation has reached.
@@ -41,11 +37,9 @@ pub struct Reached {
 }
 
 /// The same place again.
-pub(crate) fn copy_place(alloc: Global, place: &Place) -> Result<Place, AllocError>
+pub(crate) fn copy_place(place: &Place) -> Result<Place, AllocError>
     ensures { IfOk result (λ p. p ≡ place.now) }
 {
-    let copied = copy_evaluation(alloc, &place.evaluation)?;
-    let evaluation = Box::new(alloc, copied)?;
-    let graph = Rc::clone(&place.graph)?;
-    Ok(Place { graph, evaluation })
+    let evaluation = place.evaluation.clone()?;
+    Ok(Place { evaluation })
 }

@@ -1,102 +1,64 @@
-//! What a node does at its turn, and what a frame does with the outcome that it waits for.
+//! What a part does at its turn, and what one that waits does with the outcome that it waits for.
 
-ghost use Rattle.std.specs.Prelude.{◌≡◌, ◌<◌, ◌+◌, ℕ, List};
-ghost use Rattle.heylo_graph.specs.declared.nodes.Node.{Node as NodeValue};
-ghost use Rattle.linear_form.specs.Query.{Query, Taken as PlainTaken};
-ghost use Rattle.linear_form.specs.Query.Query.{done};
+ghost use Rattle.std.specs.Prelude.{List, ℕ, ◌<◌};
 ghost use Rattle.linear_form.specs.PlainPaths.{path_of};
-ghost use Rattle.linear_values.specs.PlainValues.{linear_of};
-ghost use Rattle.linear_values.specs.Kept.{IsKeptValue};
+ghost use Rattle.linear_form.specs.Query.{Query, Taken as PlainTaken};
 ghost use Rattle.linear_form.specs.QuestionLaws.{EachResult};
+ghost use Rattle.linear_form.specs.internal.Evaluations.{frame_weight, IsReadyFrame, resumed};
+ghost use Rattle.linear_form.specs.internal.Outcomes.{IsKeptResult, Result as Outcomes};
+ghost use Rattle.linear_form.specs.internal.Parts.{after_first, asked, IsReady, IsReadyWork, later_weight, part_weight};
+ghost use Rattle.linear_form.specs.internal.PlainParts.{outcome_of, part_of, work_of};
 ghost use Rattle.linear_form.specs.internal.Run.{along};
-ghost use Rattle.linear_form.specs.internal.Outcomes.{Result as Outcomes, IsKeptResult};
-ghost use Rattle.linear_form.specs.internal.NodeQuestions.{asks_at, node_weight};
-ghost use Rattle.linear_form.specs.internal.Frames.{branch_asks, branch_weight, resumed, frame_weight, IsKeptFrame};
-ghost use Rattle.linear_form.specs.internal.KindQuestions.{kind_asks, kind_weight, IsKeptKind};
-ghost use Rattle.linear_form.specs.internal.NodeTables.{AreValues, AreKeptValues};
-ghost use Rattle.linear_form.specs.internal.Evaluations.{outcome_of, IsKeptOutcome};
-ghost use Rattle.linear_form.specs.internal.NodeSteps.{Comes, Turns, IsTurn};
+ghost use Rattle.linear_form.specs.internal.Steps.{Comes, Turns};
 
-use crate::cursor::{Stop, truth};
-use crate::evaluations::{Branch, Frame, Outcome};
-use crate::kinds::{Kind, kind_of};
-use crate::operations::{Came, number_came, operated, truth_came};
-use crate::operators::{nothing, number, scale, unit};
+use crate::cursor::{Stop, answer};
+use crate::evaluations::Frame;
+use crate::operations::{Came, operated, truth_came};
+use crate::parts::{Outcome, Part, Work};
 use crate::paths::Taken;
-use crate::plain_values::noted;
-use heylo_graph::{Graph, NodeId};
-use linear_values::Lin;
-use linear_values::lin::{copy_value, variable};
-use std::alloc::Global;
+use std::alloc::{AllocError, Global};
+use std::rc::Rc;
 
 /// What is evaluated next.
 #[derive(Drop)]
 pub(crate) enum Turn {
-    Node(NodeId),
-    /// The node, while the frame waits for its outcome.
-    Part(NodeId, Frame),
+    Part(Rc<Part, Global>),
+    /// The part, while the frame waits for its outcome.
+    Waits(Rc<Part, Global>, Frame),
     /// Nothing: this is what the part comes to.
     Came(Came),
 }
 
-/// What the node does. Where its value is noted, it comes to this at once.
-pub(crate) fn node_turn(
+/// What the part does.
+pub(crate) fn part_turn(
     alloc: Global,
-    graph: &Graph,
-    values: &[Option<Lin>],
-    id: NodeId,
+    part: &Rc<Part, Global>,
     path: &[Taken],
     at: usize,
 ) -> Result<Turn, Stop>
-    requires { AreValues graph.now values.now }
-    ensures { Turns graph.now (path_of path.now) (asks_at graph.now id) at (node_weight graph.now id) result }
+    requires { IsReady (part_of part.now.value) }
+    ensures { Turns (path_of path.now) (asked (part_of part.now.value)) at (part_weight (part_of part.now.value)) result }
 {
-    if let Some(x) = noted(values, id) {
-        let value = copy_value(alloc, x)?;
-        return Ok(outcome_there(Outcome::Number(value), at));
-    }
-    if graph.len() <= id.index() {
-        return Err(Stop::Bits);
-    }
-    kind_turn(alloc, values, kind_of(graph.node(id)), path, at)
-}
-
-/// What a node of this kind does. A part whose value is noted isn't evaluated.
-pub(crate) fn kind_turn(
-    alloc: Global,
-    values: &[Option<Lin>],
-    kind: Kind,
-    path: &[Taken],
-    at: usize,
-) -> Result<Turn, Stop>
-    requires values { AreKeptValues values.now }
-    requires kind { IsKeptKind kind }
-    ensures { (ns : List NodeValue) → AreValues ns values.now → Turns ns (path_of path.now) (kind_asks ns kind) at (1 + kind_weight ns kind) result }
-{
-    match kind {
-        Kind::Number(v) => come(number_came(number(alloc, &v, at))),
-        Kind::Variable(x) => {
-            let value = variable(alloc, x)?;
-            Ok(outcome_there(Outcome::Number(Some(value)), at))
-        }
-        Kind::Known(b) => Ok(outcome_there(Outcome::Truth(b), at)),
-        Kind::Flag(x) => come(truth_came(truth(alloc, x, path, at))),
-        Kind::Binder => Err(Stop::Bits),
-        Kind::Two(operator, a, b) => match noted(values, a) {
-            None => Ok(Turn::Part(a, Frame::First(operator, b))),
-            Some(x) => match noted(values, b) {
-                None => number_turn(alloc, &Frame::First(operator, b), x, path, at),
-                Some(y) => come(operated(alloc, operator, x, y, path, at)),
-            },
-        },
-        Kind::Part(a, frame) => match noted(values, a) {
-            None => Ok(Turn::Part(a, frame)),
-            Some(x) => number_turn(alloc, &frame, x, path, at),
-        },
+    match &part.work {
+        Work::Known(outcome) => Ok(Turn::Came(Came {
+            outcome: outcome.clone()?,
+            next: at,
+        })),
+        Work::Asks(atom) => come(truth_came(answer(alloc, atom, path, at))),
+        Work::Large => Err(Stop::Bits),
+        Work::One(_, first) => Ok(Turn::Waits(Rc::clone(first)?, Frame::First(Rc::clone(part)?))),
+        Work::Two(_, first, _) => Ok(Turn::Waits(
+            Rc::clone(first)?,
+            Frame::First(Rc::clone(part)?),
+        )),
+        Work::Choice(test, _, _) => Ok(Turn::Waits(
+            Rc::clone(test)?,
+            Frame::First(Rc::clone(part)?),
+        )),
     }
 }
 
-/// What the frame does with the outcome.
+/// What the part that waits does with the outcome.
 pub(crate) fn frame_turn(
     alloc: Global,
     frame: &Frame,
@@ -104,97 +66,48 @@ pub(crate) fn frame_turn(
     path: &[Taken],
     at: usize,
 ) -> Result<Turn, Stop>
-    requires frame { IsKeptFrame frame.now }
-    requires outcome { IsKeptOutcome outcome.now }
-    ensures { (ns : List NodeValue) → Turns ns (path_of path.now) (resumed ns frame.now (outcome_of outcome.now)) at (frame_weight ns frame.now) result }
+    requires frame { IsReadyFrame frame.now }
+    requires outcome { IsKeptResult (outcome_of outcome.now) }
+    ensures { Turns (path_of path.now) (resumed frame.now (outcome_of outcome.now)) at (frame_weight frame.now) result }
 {
-    match outcome {
-        Outcome::Number(x) => number_turn(alloc, frame, x, path, at),
-        Outcome::Truth(t) => truth_turn(alloc, frame, *t, at),
-        Outcome::Ends(_, _) => Err(Stop::Bits),
+    match frame {
+        Frame::First(part) => first_came(alloc, part, outcome, path, at),
+        Frame::Second(part, first) => match &part.work {
+            Work::Two(operator, _, _) => come(operated(alloc, operator, first, outcome, path, at)),
+            _ => Err(Stop::Bits),
+        },
     }
 }
 
-/// What the frame does with a value.
-fn number_turn(
+/// What the part does once its first one has come to the outcome.
+fn first_came(
     alloc: Global,
-    frame: &Frame,
-    x: &Option<Lin>,
+    part: &Rc<Part, Global>,
+    outcome: &Outcome,
     path: &[Taken],
     at: usize,
 ) -> Result<Turn, Stop>
-    requires frame { IsKeptFrame frame.now }
-    requires value { IsKeptValue (linear_of x.now) }
-    ensures { (ns : List NodeValue) → Turns ns (path_of path.now) (resumed ns frame.now (Outcomes.number (linear_of x.now))) at (frame_weight ns frame.now) result }
+    requires part { IsReadyWork (work_of part.now.value.work) }
+    requires outcome { IsKeptResult (outcome_of outcome.now) }
+    ensures { Turns (path_of path.now) (after_first (work_of part.now.value.work) (outcome_of outcome.now)) at (later_weight (work_of part.now.value.work)) result }
 {
-    match frame {
-        Frame::First(operator, b) => {
-            let first = copy_value(alloc, x)?;
-            Ok(Turn::Part(*b, Frame::Second(*operator, first)))
+    match &part.work {
+        Work::One(operator, _) => come(operated(alloc, operator, outcome, outcome, path, at)),
+        Work::Two(_, _, second) => {
+            let waits = Frame::Second(Rc::clone(part)?, outcome.clone()?);
+            Ok(Turn::Waits(Rc::clone(second)?, waits))
         }
-        Frame::Second(operator, a) => come(operated(alloc, *operator, a, x, path, at)),
-        Frame::Only(operator) => come(operated(alloc, *operator, x, &None, path, at)),
-        Frame::Scaled(w) => come(number_came(scale(alloc, w, x, at))),
-        Frame::Stated(id) => {
-            let stated = copy_value(alloc, x)?;
-            Ok(Turn::Part(*id, Frame::Found(stated)))
-        }
-        Frame::Found(a) => {
-            let stated = copy_value(alloc, a)?;
-            let found = copy_value(alloc, x)?;
-            Ok(outcome_there(Outcome::Ends(stated, found), at))
-        }
-        Frame::Choice(_, _) => Err(Stop::Bits),
-        Frame::Same(_) => Err(Stop::Bits),
-    }
-}
-
-/// What the frame does with a truth.
-fn truth_turn(alloc: Global, frame: &Frame, t: bool, at: usize) -> Result<Turn, Stop>
-    ensures { (ns : List NodeValue) (ps : List PlainTaken) → Turns ns ps (resumed ns frame.now (Outcomes.truth t)) at (frame_weight ns frame.now) result }
-{
-    match frame {
-        Frame::Choice(yes, no) => if t {
-            Ok(branch_turn(alloc, *yes, at))
-        } else {
-            Ok(branch_turn(alloc, *no, at))
+        Work::Choice(_, yes, no) => match outcome {
+            Outcome::Truth(holds) => Ok(Turn::Part(Rc::clone(if *holds { yes } else { no })?)),
+            _ => Err(Stop::Bits),
         },
-        Frame::Same(h) => {
-            let same = Frame::Choice(Branch::Truth(t), Branch::Truth(!t));
-            Ok(Turn::Part(*h, same))
-        }
-        Frame::First(_, _) => Err(Stop::Bits),
-        Frame::Second(_, _) => Err(Stop::Bits),
-        Frame::Only(_) => Err(Stop::Bits),
-        Frame::Scaled(_) => Err(Stop::Bits),
-        Frame::Stated(_) => Err(Stop::Bits),
-        Frame::Found(_) => Err(Stop::Bits),
+        _ => Err(Stop::Bits),
     }
 }
 
-/// What a branch is.
-fn branch_turn(alloc: Global, branch: Branch, at: usize) -> Turn
-    ensures { (ns : List NodeValue) (ps : List PlainTaken) (w : ℕ) → branch_weight ns branch < w → IsTurn ns ps (branch_asks ns branch) at w result }
-{
-    match branch {
-        Branch::Node(id) => Turn::Node(id),
-        Branch::Truth(t) => outcome_there(Outcome::Truth(t), at),
-        Branch::Zero => outcome_there(Outcome::Number(nothing(alloc)), at),
-        Branch::One => outcome_there(Outcome::Number(unit(alloc)), at),
-        Branch::Infinity => outcome_there(Outcome::Number(None), at),
-    }
-}
-
-/// An outcome that nothing is asked for.
-fn outcome_there(outcome: Outcome, at: usize) -> Turn
-    ensures { (ns : List NodeValue) (ps : List PlainTaken) (q : Query Outcomes) (w : ℕ) → q ≡ done (outcome_of outcome) → IsKeptOutcome outcome → 0 < w → IsTurn ns ps q at w result }
-{
-    Turn::Came(Came { outcome, next: at })
-}
-
-/// What an operator comes to, or a node without parts.
+/// What an operator comes to, or a question.
 fn come(came: Result<Came, Stop>) -> Result<Turn, Stop>
-    ensures { (ns : List NodeValue) (ps : List PlainTaken) (q : Query Outcomes) (i w : ℕ) → EachResult IsKeptResult q → Comes came (along ps q i) → 0 < w → Turns ns ps q i w result }
+    ensures { (ps : List PlainTaken) (q : Query Outcomes) (i w : ℕ) → EachResult IsKeptResult q → Comes came (along ps q i) → 0 < w → Turns ps q i w result }
 {
     match came {
         Ok(came) => Ok(Turn::Came(came)),

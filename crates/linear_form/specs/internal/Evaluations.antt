@@ -1,38 +1,30 @@
--- Evaluations over a graph that stand somewhere, as trees of questions: what is evaluated next, and then what waits for it.
+-- Evaluations that stand somewhere, as trees of questions: what is evaluated next, and then what waits for it.
 use Rattle.std.specs.Prelude.{ℕ, ◌+◌, List, [], ◌∷◌}
-use Rattle.heylo_graph.specs.declared.nodes.Node.{Node}
 use Rattle.linear_form.specs.Query.{Query, next}
 use Rattle.linear_form.specs.Query.Query.{done, bits}
 use Rattle.linear_form.specs.Questions.{Ends}
 use Rattle.linear_form.specs.Standings.{Standing}
-use Rattle.linear_values.specs.PlainValues.{linear_of}
 use Rattle.linear_form.specs.internal.Outcomes.{Result, IsKeptResult}
-use Rattle.linear_form.specs.internal.NodeQuestions.{asks_at, node_weight}
-use Rattle.linear_form.specs.internal.Frames.{resumed, frames_weight, AreKeptFrames}
+use Rattle.linear_form.specs.internal.Parts.{after_first, after_second, asked, IsReady, IsReadyWork, later_weight, part_weight}
+use Rattle.linear_form.specs.internal.PlainParts.{outcome_of, part_of, work_of}
 use Rattle.linear_form.specs.declared.evaluations.Evaluation.{Evaluation}
 use Rattle.linear_form.specs.declared.evaluations.Focus as F
-use Rattle.linear_form.specs.declared.evaluations.Frame.{Frame}
-use Rattle.linear_form.specs.declared.evaluations.Outcome as O
+use Rattle.linear_form.specs.declared.evaluations.Frame as W
 
--- What an outcome is, in plain words.
-abbrev pub outcome_of : O.Outcome → Result
-outcome_of (O.TheVariants.Number x) = Result.number (linear_of x)
-outcome_of (O.TheVariants.Truth t) = Result.truth t
-outcome_of (O.TheVariants.Ends x y) = Result.ends (linear_of x, linear_of y)
+-- What the focus asks: a part its questions, an outcome nothing.
+abbrev pub asked_by : F.Focus → Query Result
+asked_by (F.TheVariants.Part p) = asked (part_of p.value)
+asked_by (F.TheVariants.Came o) = done (outcome_of o)
 
--- A value that comes has terms that grow, and small numbers.
-abbrev pub IsKeptOutcome : O.Outcome → Type 0
-IsKeptOutcome o = IsKeptResult (outcome_of o)
-
--- What the focus asks: a node its questions, an outcome nothing.
-abbrev pub asked_by : List Node → F.Focus → Query Result
-asked_by ns (F.TheVariants.Node i) = asks_at ns i
-asked_by ns (F.TheVariants.Came o) = done (outcome_of o)
+-- What a part that waits does with the outcome that it waits for.
+abbrev pub resumed : W.Frame → Result → Query Result
+resumed (W.TheVariants.First p) r = after_first (work_of p.value.work) r
+resumed (W.TheVariants.Second p o) r = after_second (work_of p.value.work) (outcome_of o) r
 
 -- Some questions, and then the frames, the last of them first.
-abbrev pub framed : List Node → Query Result → List Frame → Query Result
-framed ns q [] = q
-framed ns q (f ∷ fs) = next (framed ns q fs) (resumed ns f)
+abbrev pub framed : Query Result → List W.Frame → Query Result
+framed q [] = q
+framed q (f ∷ fs) = next (framed q fs) (resumed f)
 
 -- What comes at the end: the values of both forms. No outcome of a part stands there.
 abbrev pub ended : Result → Query Ends
@@ -41,31 +33,55 @@ ended (Result.truth t) = bits
 ended (Result.ends e) = done e
 
 -- Some questions, then the frames, and then the end.
-abbrev pub through : List Node → Query Result → List Frame → Query Ends
-through ns q fs = next (framed ns q fs) ended
+abbrev pub through : Query Result → List W.Frame → Query Ends
+through q fs = next (framed q fs) ended
 
 -- What an evaluation has left to ask.
-abbrev pub left_at : List Node → Evaluation → Query Ends
-left_at ns p = through ns (asked_by ns p.focus) p.frames.items
+abbrev pub left_at : Evaluation → Query Ends
+left_at p = through (asked_by p.focus) p.frames.items
 
 -- Where it stands, as contracts see it.
-abbrev pub standing : List Node → Evaluation → Standing
-standing ns p = record { left = left_at ns p; at = p.at }
+abbrev pub standing : Evaluation → Standing
+standing p = record { left = left_at p; at = p.at }
 
--- The focus keeps such a value, where it has one.
-abbrev pub IsKeptFocus : F.Focus → Type 0
-IsKeptFocus (F.TheVariants.Node i) = Unit {0}
-IsKeptFocus (F.TheVariants.Came o) = IsKeptOutcome o
+-- ---- What is noted of parts is so
 
--- An evaluation keeps such values.
-abbrev pub IsKeptEvaluation : Evaluation → Type 0
-IsKeptEvaluation e = IsKeptFocus e.focus × AreKeptFrames e.frames.items
+-- Of the part at the focus; an outcome is a value with terms that grow, and small numbers.
+abbrev pub IsReadyFocus : F.Focus → Type 0
+IsReadyFocus (F.TheVariants.Part p) = IsReady (part_of p.value)
+IsReadyFocus (F.TheVariants.Came o) = IsKeptResult (outcome_of o)
 
--- How much is left to do at the focus.
-abbrev pub focus_weight : List Node → F.Focus → ℕ
-focus_weight ns (F.TheVariants.Node i) = node_weight ns i
-focus_weight ns (F.TheVariants.Came o) = 0
+-- Of a part that waits.
+abbrev pub IsReadyFrame : W.Frame → Type 0
+IsReadyFrame (W.TheVariants.First p) = IsReadyWork (work_of p.value.work)
+IsReadyFrame (W.TheVariants.Second p o) = IsReadyWork (work_of p.value.work) × IsKeptResult (outcome_of o)
 
--- How much an evaluation has left to do.
-abbrev pub weight : List Node → Evaluation → ℕ
-weight ns p = focus_weight ns p.focus + frames_weight ns p.frames.items
+-- Of all parts that wait.
+abbrev pub AreReadyFrames : List W.Frame → Type 0
+AreReadyFrames [] = Unit {0}
+AreReadyFrames (f ∷ fs) = IsReadyFrame f × AreReadyFrames fs
+
+-- Of all parts of an evaluation.
+abbrev pub IsReadyEvaluation : Evaluation → Type 0
+IsReadyEvaluation e = IsReadyFocus e.focus × AreReadyFrames e.frames.items
+
+-- ---- How much is left to do
+
+-- At the focus.
+abbrev pub focus_weight : F.Focus → ℕ
+focus_weight (F.TheVariants.Part p) = part_weight (part_of p.value)
+focus_weight (F.TheVariants.Came o) = 0
+
+-- Once a part that waits has its outcome.
+abbrev pub frame_weight : W.Frame → ℕ
+frame_weight (W.TheVariants.First p) = later_weight (work_of p.value.work)
+frame_weight (W.TheVariants.Second p o) = 1
+
+-- Once all of them have theirs.
+abbrev pub frames_weight : List W.Frame → ℕ
+frames_weight [] = 0
+frames_weight (f ∷ fs) = frame_weight f + frames_weight fs
+
+-- For an evaluation.
+abbrev pub weight : Evaluation → ℕ
+weight p = focus_weight p.focus + frames_weight p.frames.items
