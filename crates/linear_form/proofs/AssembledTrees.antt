@@ -17,17 +17,17 @@ next_assoc (done a) f g = refl
 next_assoc bits f g = refl
 next_assoc (ask q y n) f g = ap₂ (ask q) (next_assoc y f g) (next_assoc n f g)
 
-pub of_values : (q r : Query Linear) (f : Linear → Linear → Query Result) → next (valued q) (of_number (λ x. next (valued r) (of_number (f x)))) ≡ both q r f
-of_values q r f = next_assoc q _ _ ∙ next_cong q _ _ (λ x. next_assoc r _ (of_number (f x)))
+pub of_values : (q r : Query Linear) (f : Linear → Linear → Query Result) → next (valued q) (λ x. next (valued r) (λ y. of_number (λ a. of_number (f a) y) x)) ≡ both q r f
+of_values q r f = next_assoc q _ _ ∙ next_cong q _ _ (λ x. next_assoc r _ _)
 
 -- a form or a condition with one part or two
-pub one_valued : (q : Query Linear) (f : Linear → Query Linear) → valued (next q f) ≡ next (valued q) (of_number (λ x. valued (f x)))
+pub one_valued : (q : Query Linear) (f : Linear → Query Linear) → valued (next q f) ≡ next (valued q) (λ r. of_number (λ x. of_number (λ y. valued (f x)) r) r)
 one_valued q f = next_assoc q f _ ∙ sym (next_assoc q _ _)
 
-pub two_valued : (q r : Query Linear) (f : Linear → Linear → Query Linear) → valued (both q r f) ≡ next (valued q) (of_number (λ x. next (valued r) (of_number (λ y. valued (f x y)))))
+pub two_valued : (q r : Query Linear) (f : Linear → Linear → Query Linear) → valued (both q r f) ≡ next (valued q) (λ x. next (valued r) (λ y. of_number (λ a. of_number (λ b. valued (f a b)) y) x))
 two_valued q r f = next_assoc q _ _ ∙ next_cong q _ _ (λ x. next_assoc r (f x) _) ∙ sym (of_values q r (λ x y. valued (f x y)))
 
-pub two_told : (q r : Query Linear) (f : Linear → Linear → Query Bool) → told (both q r f) ≡ next (valued q) (of_number (λ x. next (valued r) (of_number (λ y. told (f x y)))))
+pub two_told : (q r : Query Linear) (f : Linear → Linear → Query Bool) → told (both q r f) ≡ next (valued q) (λ x. next (valued r) (λ y. of_number (λ a. of_number (λ b. told (f a b)) y) x))
 two_told q r f = next_assoc q _ _ ∙ next_cong q _ _ (λ x. next_assoc r (f x) _) ∙ sym (of_values q r (λ x y. told (f x y)))
 
 pub truth_valued : (q : Query Bool) (f : Bool → Query Linear) → valued (next q f) ≡ next (told q) (of_bool (λ t. valued (f t)))
@@ -37,5 +37,5 @@ pub truth_told : (q : Query Bool) (f : Bool → Query Bool) → told (next q f) 
 truth_told q f = next_assoc q f _ ∙ sym (next_assoc q _ _)
 
 -- the stated form, and then the found one
-pub all_asked : (q r : Query Linear) → next (next (valued q) (of_number (λ x. next (valued r) (of_number (λ y. done (Result.ends (x, y))))))) ended ≡ both q r (λ x y. done (x, y))
+pub all_asked : (q r : Query Linear) → next (next (valued q) (λ x. next (valued r) (λ y. of_number (λ a. of_number (λ b. done (Result.ends (a, b))) y) x))) ended ≡ both q r (λ x y. done (x, y))
 all_asked q r = ap (λ t. next t ended) (of_values q r (λ x y. done (Result.ends (x, y)))) ∙ next_assoc q _ ended ∙ next_cong q _ _ (λ x. next_assoc r _ ended)

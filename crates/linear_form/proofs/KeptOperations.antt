@@ -2,7 +2,6 @@
 use Rattle.std.proofs.Common.{◌≡◌, ℕ, List, sym, subst}
 use Rattle.std.specs.Prelude as M
 use Rattle.std.specs.Prelude.{Bool, Ok, Err, IfOk}
-use Rattle.heyvl_num.specs.Rational.{Rational}
 use Rattle.linear_values.specs.Lin.{Linear}
 use Rattle.linear_values.specs.Kept.{IsKeptValue}
 use Rattle.linear_form.specs.Query.{Query, Taken}
@@ -10,10 +9,10 @@ use Rattle.linear_form.specs.Questions as q
 use Rattle.linear_form.specs.QuestionLaws.{EachResult}
 use Rattle.linear_form.specs.internal.Run.{along}
 use Rattle.linear_form.specs.internal.Outcomes.{Result, IsKeptResult, valued, told}
-use Rattle.linear_form.specs.internal.NodeQuestions.{operation}
-use Rattle.linear_form.specs.internal.Evaluations.{IsKeptOutcome, outcome_of}
-use Rattle.linear_form.specs.internal.NodeSteps.{Comes}
-use Rattle.linear_form.specs.declared.kinds.Operation.{Operation}
+use Rattle.linear_form.specs.internal.Parts.{operated, operation}
+use Rattle.linear_form.specs.internal.PlainParts.{outcome_of}
+use Rattle.linear_form.specs.internal.Steps.{Comes}
+use Rattle.linear_form.specs.declared.parts.Operation.{Operation}
 use Rattle.linear_form.specs.declared.operations.Came.{Came}
 use Rattle.linear_form.specs.declared.cursor.Stop.{Stop}
 use Rattle.linear_form.proofs.EachResults.{each_next, each_after}
@@ -40,15 +39,21 @@ operation_kept Operation.CoValidate x y h k = valued_kept (q.co_validate x) (co_
 operation_kept Operation.AtMost x y h k = told_kept (q.at_most x y)
 operation_kept Operation.Less x y h k = told_kept (q.less x y)
 operation_kept Operation.Equal x y h k = told_kept (q.equal x y)
+operation_kept (Operation.Scale w) x y h k = valued_kept (q.scale w x) (scale_kept w x h)
+operation_kept Operation.Ends x y h k = tt
+
+pub operated_kept : (o : Operation) (r s : Result) → IsKeptResult r → IsKeptResult s → EachResult IsKeptResult (operated o r s)
+operated_kept o (Result.number x) (Result.number y) h k = operation_kept o x y h k
+operated_kept o (Result.number x) (Result.truth t) h k = tt
+operated_kept o (Result.number x) (Result.ends e) h k = tt
+operated_kept o (Result.truth t) s h k = tt
+operated_kept o (Result.ends e) s h k = tt
 
 -- what comes of kept values is kept
-pub came_kept : (r : M.Result Came Stop) (t : Query Result) (ps : List Taken) (i : ℕ) → EachResult IsKeptResult t → Comes r (along ps t i) → IfOk r (λ c. IsKeptOutcome c.outcome)
+pub came_kept : (r : M.Result Came Stop) (t : Query Result) (ps : List Taken) (i : ℕ) → EachResult IsKeptResult t → Comes r (along ps t i) → IfOk r (λ c. IsKeptResult (outcome_of c.outcome))
 came_kept (Ok c) t ps i h g = run_result ps t IsKeptResult i (outcome_of c.outcome) c.next h g
 came_kept (Err e) t ps i h g = tt
 
 -- an operator that is known
 pub operator_arm : (r : M.Result Came Stop) (ps : List Taken) (o o' : Operation) (x y : Linear) (i : ℕ) → o ≡ o' → Comes r (along ps (operation o' x y) i) → Comes r (along ps (operation o x y) i)
 operator_arm r ps o o' x y i e h = subst (λ o. Comes r (along ps (operation o x y) i)) (sym e) h
-
-pub scaled_kept : (w : Rational) (x : Linear) → IsKeptValue x → EachResult IsKeptResult (valued (q.scale w x))
-scaled_kept w x h = valued_kept (q.scale w x) (scale_kept w x h)

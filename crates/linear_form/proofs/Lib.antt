@@ -40,13 +40,15 @@ pub mod PlaceRuns
 pub mod exported
 mod SplitAtoms
 mod SureQuestions
-mod KindsOfNodes
 mod KeptOperations
-mod NodeRuns
-mod NodeFrames
-mod FrameTurns
-mod EnteredNodes
-mod NotedValues
-mod NodesThatAsk
+mod EvaluationRuns
+mod Clones
+mod PartTurns
+mod PlainPartsAre
+mod OperatedOutcomes
+mod PartsThatWait
+mod ReadyParts
 mod FramesThatAsk
-mod CopiedEvaluations
+mod NodeWorks
+mod GoalPartLists
+mod ChosenValues

@@ -4,7 +4,6 @@ use Rattle.std.proofs.lemmas.List.{take_all}
 use Prim.Native.Nat.{zero, suc}
 use Rattle.std.specs.Prelude.{Option, Some, None}
 use Rattle.heylo_formula.specs.Goals.{Goal}
-use Rattle.heylo_graph.specs.declared.nodes.Node.{Node}
 use Rattle.linear_form.specs.Query.{Query, Atom, Taken, next, known, unless_known, onto, once}
 use Rattle.linear_form.specs.Query.Query.{done, bits, ask}
 use Rattle.linear_form.specs.Questions.{questions}
@@ -104,5 +103,5 @@ no_end g ps t p a h on e end = one_given (once ps p.left) t e (lasts_once 2 ps p
     left : end_at g ps ≡ once ps p.left
     left = subst (λ xs. end_at g xs ≡ once xs p.left) (take_all p.at ps (omega (arith, a))) on.left
 
-pub no_end_here : (g : Goal) (ps : List Taken) (t : Taken) (ns : List Node) (p : Standing) (e : Evaluation) (count : ℕ) → standing ns e ≡ p → e.at ≡ count → Lasts 2 (left_at ns e) → length ps ≡ count → IsOn g ps p → IsNoEnd g (ps ++ (t ∷ []))
-no_end_here g ps t ns p e count s a h l on = no_end g ps t (standing ns e) (omega (arith, a, l)) h (subst (IsOn g ps) (sym s) on)
+pub no_end_here : (g : Goal) (ps : List Taken) (t : Taken) (p : Standing) (e : Evaluation) (count : ℕ) → standing e ≡ p → e.at ≡ count → Lasts 2 (left_at e) → length ps ≡ count → IsOn g ps p → IsNoEnd g (ps ++ (t ∷ []))
+no_end_here g ps t p e count s a h l on = no_end g ps t (standing e) (omega (arith, a, l)) h (subst (IsOn g ps) (sym s) on)
