@@ -1,4 +1,0 @@
-use Rattle.linear_form.proofs.plain_values.within.Goals as goal
-
-pub returns-in-Some-checked_sub : goal.returns-in-Some-checked_sub
-returns-in-Some-checked_sub c q h = rw c.in-Some.is at h
