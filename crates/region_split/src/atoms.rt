@@ -24,7 +24,7 @@ pub struct Atoms {
     indexes: Vec<usize>,
     /// By fingerprint, the number of the first comparison that has it, or whose row has it. No clause rests on it: what it gives is
     /// compared.
-    numbers: IndexMap<u128, usize>,
+    numbers: IndexMap<u64, usize>,
 }
 
 impl Model for Atoms {
@@ -36,36 +36,42 @@ impl Model for Atoms {
     ghost view = { λ a. a.known.items };
 }
 
-/// An odd number whose bits look random: 2^128 over the golden ratio.
-const MULTIPLIER: u128 = 0x9e37_79b9_7f4a_7c15_f39c_c060_5ced_c835;
+/// An odd number whose bits look random: 2^64 over the golden ratio.
+const MULTIPLIER: u64 = 0x9e37_79b9_7f4a_7c15;
 
 /// A number with another one mixed into it.
-fn mixed(number: u128, next: u128) -> u128 {
-    (number ^ next).wrapping_mul(MULTIPLIER)
+fn mixed(number: u64, next: u64) -> u64 {
+    let product = (number ^ next).wrapping_mul(MULTIPLIER);
+    product ^ (product >> 32)
+}
+
+/// A number with a wide one mixed into it.
+fn with_wide(number: u64, next: u128) -> u64 {
+    let halves = (next ^ (next >> 64)) % (1 << 64);
+    mixed(number, halves as u64)
 }
 
 /// A number with a fraction mixed into it.
-fn with_fraction(number: u128, fraction: &Frac) -> u128 {
-    let half = mixed(number, fraction.num().cast_unsigned());
-    mixed(half, fraction.den().cast_unsigned())
+fn with_fraction(number: u64, fraction: &Frac) -> u64 {
+    let half = with_wide(number, fraction.num().cast_unsigned());
+    with_wide(half, fraction.den().cast_unsigned())
 }
 
 /// The fingerprint of a comparison: a number that comparisons of the same value have in common, and others rarely have.
-fn of_value(left: &Lin, strict: bool) -> u128 {
-    let mut found = with_fraction(u128::from(strict), &left.rest);
+fn of_value(left: &Lin, strict: bool) -> u64 {
+    let mut found = with_fraction(u64::from(strict), &left.rest);
     for term in &left.terms {
-        found = with_fraction(mixed(found, u128::from(term.0)), &term.1);
+        found = with_fraction(mixed(found, u64::from(term.0)), &term.1);
     }
     found
 }
 
 /// The fingerprint of a row, in the same way.
-fn of_row(row: &Row) -> u128 {
-    let rest = i128::from(row.rest).cast_unsigned();
-    let mut found = mixed(u128::from(row.strict), rest);
+fn of_row(row: &Row) -> u64 {
+    let mut found = mixed(u64::from(row.strict), row.rest.cast_unsigned());
     for term in &row.terms {
-        let weight = i128::from(term.1).cast_unsigned();
-        found = mixed(mixed(found, u128::from(term.0)), weight);
+        let weight = term.1.cast_unsigned();
+        found = mixed(mixed(found, u64::from(term.0)), weight);
     }
     found
 }

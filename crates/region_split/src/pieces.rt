@@ -4,7 +4,7 @@ ghost use Rattle.std.specs.Prelude.{◌≡◌, ◌++◌, ◌∷◌, [], IfOk, Li
 ghost use Prim.Native.Nat.{suc};
 ghost use Rattle.heylo_formula.specs.Goals.{Goal as PlainGoal, goal_of};
 ghost use Rattle.heylo_formula.specs.TypedGoals.{IsTypedGoal};
-ghost use Rattle.linear_form.specs.PlainPaths.{atom_of, path_of, taken_of};
+ghost use Rattle.linear_form.specs.PlainPaths.{path_of, taken_of};
 ghost use Rattle.linear_form.specs.Query.{Taken as PlainTaken, onto};
 ghost use Rattle.linear_form.specs.Splits.{split_at};
 ghost use Rattle.region_split.specs.Pieces.{IsSplitAt, first_half, second_half};
@@ -18,9 +18,8 @@ use crate::points::with_path;
 use crate::solver::{Solved, solve_rows};
 use goal_answers::{Broken, Cause, Tree};
 use heylo_formula::{Goal, Val};
-use linear_form::{Atom, RowList, Taken, next_row, split, with_denied_goal};
+use linear_form::{RowList, Taken, copy_atom, next_row, split, with_denied_goal};
 use linear_rows::Row;
-use linear_values::lin::copy;
 use linear_values::numbers::narrow;
 use std::alloc::{AllocError, Global};
 
@@ -223,16 +222,6 @@ fn copy_answer(alloc: Global, taken: &Taken) -> Result<Taken, AllocError>
         atom: copy_atom(alloc, &taken.atom)?,
         held: taken.held,
     })
-}
-
-/// The same question again. Want of memory is the one error.
-fn copy_atom(alloc: Global, atom: &Atom) -> Result<Atom, AllocError>
-    ensures { IfOk result (λ made. atom_of made ≡ atom_of atom.now) }
-{
-    match atom {
-        Atom::Truth(x) => Ok(Atom::Truth(*x)),
-        Atom::Row(left, strict) => Ok(Atom::Row(copy(alloc, left)?, *strict)),
-    }
 }
 
 /// The same rows again. Want of memory is the one error.
