@@ -3,7 +3,8 @@
 ghost use Rattle.std.specs.Prelude.{◌≡◌, [], List, true, false, IfOk, IfSome};
 ghost use Rattle.heylo_formula.specs.declared.types.Ty.{Ty as PlainTy};
 ghost use Rattle.linear_form.specs.PlainPaths.{atom_of};
-ghost use Rattle.region_split.specs.internal.KnownComparisons.{AreKnown, IsKnownQuestion, IsRecalled, IsRowOf, question_of};
+ghost use Rattle.linear_form.specs.Query.{Atom as PlainAtom};
+ghost use Rattle.region_split.specs.internal.KnownComparisons.{AreKnown, IsNumber, IsRecalled, IsRowOf};
 
 use crate::answer_rows::AnswerRows;
 use crate::known_comparisons::{Known, Recalled, answer, asks, make_known, row_of};
@@ -88,35 +89,39 @@ impl Atoms {
         }
     }
 
-    /// The comparison, where the walk has met it.
-    pub fn find(&self, atom: &Atom) -> Option<&Known>
-        ensures { (types : List PlainTy) → AreKnown types self.now → IfSome result (λ k. IsKnownQuestion types k.now × (question_of k.now ≡ atom_of atom.now)) }
+    /// The number of the comparison, where the walk has met it.
+    pub fn find(&self, atom: &Atom) -> Option<usize>
+        ensures { IfSome result (IsNumber self.now (atom_of atom.now)) }
     {
         let Atom::Row(left, strict) = atom else {
             return None;
         };
-        let Some(number) = self.numbers.get(&of_value(left, *strict)) else {
-            return None;
-        };
-        let Some(known) = self.known.get(*number) else {
-            return None;
-        };
-        if asks(known, atom) { Some(known) } else { None }
+        let number = *self.numbers.get(&of_value(left, *strict))?;
+        if asks(self.known.get(number)?, atom) {
+            Some(number)
+        } else {
+            None
+        }
     }
 
     /// The row of an answer, where the walk has met its question.
     pub fn row_of(&self, answer: &Taken) -> Option<&Row>
         ensures { (types : List PlainTy) → AreKnown types self.now → IfSome result (λ r. IsRowOf types (atom_of answer.now.atom) answer.now.held r.now) }
     {
-        match self.find(&answer.atom) {
-            Some(known) => Some(row_of(known, answer.held)),
-            None => None,
-        }
+        let number = self.find(&answer.atom)?;
+        Some(row_of(self.known.get(number)?, answer.held))
     }
 
-    /// Takes in one more comparison with the rows of both answers, where these clash. Want of memory is the one error.
-    pub fn add(&mut self, alloc: Global, atom: &Atom, rows: AnswerRows) -> Result<(), AllocError>
-        ensures { (types : List PlainTy) → AreKnown types self.old → IsRowOf types (atom_of atom.now) true rows.yes → IsRowOf types (atom_of atom.now) false rows.no → IfOk result (λ _. AreKnown types self.new) }
+    /// Takes in one more comparison with the rows of both answers, where these clash, and gives its number. Want of memory is the one
+    /// error.
+    pub fn add(
+        &mut self,
+        alloc: Global,
+        atom: &Atom,
+        rows: AnswerRows,
+    ) -> Result<Option<usize>, AllocError>
+        ensures known { (types : List PlainTy) → AreKnown types self.old → IsRowOf types (atom_of atom.now) true rows.yes → IsRowOf types (atom_of atom.now) false rows.no → IfOk result (λ _. AreKnown types self.new) }
+        ensures number { IfOk result (λ n. IfSome n (IsNumber self.new (atom_of atom.now))) }
     {
         let number = self.known.len();
         let first = self
@@ -125,7 +130,7 @@ impl Atoms {
             .copied()
             .unwrap_or(number);
         let Some(known) = make_known(alloc, atom, rows, first)? else {
-            return Ok(());
+            return Ok(None);
         };
         self.numbers
             .insert(of_value(&known.left, known.strict), number)?;
@@ -133,25 +138,20 @@ impl Atoms {
         self.numbers.insert(of_row(&known.no), first)?;
         self.known.push(known)?;
         self.indexes.push(0)?;
-        Ok(())
+        Ok(Some(number))
     }
 
-    /// The answer that a path with these rows has given to the comparison. Where it has given none, what it answers next will have its
-    /// row behind these.
-    pub fn recall(&mut self, atom: &Atom, rows: &[Row]) -> Option<Recalled>
+    /// The answer that a path with these rows has given to the comparison of this number. Where it has given none, what it answers next
+    /// will have its row behind these.
+    pub fn recall(&mut self, number: usize, rows: &[Row]) -> Option<Recalled>
         ensures known { (types : List PlainTy) → AreKnown types self.old → AreKnown types self.new }
-        ensures recalled { (types : List PlainTy) → AreKnown types self.old → IfSome result (IsRecalled types rows.now (atom_of atom.now)) }
+        ensures recalled { (types : List PlainTy) (q : PlainAtom) → AreKnown types self.old → IsNumber self.old q number → IfSome result (IsRecalled types rows.now q) }
     {
-        let Some(known) = self.find(atom) else {
-            return None;
-        };
-        let first = known.first;
-        if first >= self.indexes.len() {
-            return None;
-        }
-        let recalled = answer(known, rows, self.indexes[first]);
+        let known = self.known.get(number)?;
+        let index = self.indexes.get_mut(known.first)?;
+        let recalled = answer(known, rows, *index);
         if recalled.is_none() {
-            self.indexes[first] = rows.len();
+            *index = rows.len();
         }
         recalled
     }

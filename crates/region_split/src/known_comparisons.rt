@@ -59,7 +59,8 @@ pub fn make_known(
     rows: AnswerRows,
     first: usize,
 ) -> Result<Option<Known>, AllocError>
-    ensures { (types : List PlainTy) → IsRowOf types (atom_of atom.now) true rows.yes → IsRowOf types (atom_of atom.now) false rows.no → IfOk result (λ k. IfSome k (λ k. IsKnownQuestion types k)) }
+    ensures known { (types : List PlainTy) → IsRowOf types (atom_of atom.now) true rows.yes → IsRowOf types (atom_of atom.now) false rows.no → IfOk result (λ k. IfSome k (λ k. IsKnownQuestion types k)) }
+    ensures asked { IfOk result (λ k. IfSome k (λ k. question_of k ≡ atom_of atom.now)) }
 {
     let Atom::Row(left, strict) = atom else {
         return Ok(None);

@@ -8,7 +8,7 @@ ghost use Rattle.linear_form.specs.Places.{IsOn};
 ghost use Rattle.linear_form.specs.PlainPaths.{path_of, atom_of};
 ghost use Rattle.linear_form.specs.Query.{Taken as PlainTaken};
 ghost use Rattle.region_split.specs.internal.Trails.{Stands, StandsAt};
-ghost use Rattle.region_split.specs.internal.KnownComparisons.{IsRecalled};
+ghost use Rattle.region_split.specs.internal.KnownComparisons.{IsNumber, IsRecalled};
 ghost use Rattle.region_split.specs.internal.Repeats.{IsAsked, IsRepeat};
 
 use crate::answer_rows::{Both, rows_of_answers};
@@ -50,42 +50,40 @@ pub fn repeated(
     if !is_comparison(&atom) {
         return Ok(Repeat::New(atom));
     }
-    if trail.atoms.find(&atom).is_some() {
-        return met_again(alloc, goal, trail, atom, place);
+    if let Some(number) = trail.atoms.find(&atom) {
+        return met_again(alloc, goal, trail, atom, number, place);
     }
     match rows_of_answers(alloc, goal, trail, atom)? {
-        Both::Rows(question, rows) => {
-            trail.atoms.add(alloc, &question, rows)?;
-            met_again(alloc, goal, trail, question, place)
-        }
+        Both::Rows(question, rows) => match trail.atoms.add(alloc, &question, rows)? {
+            Some(number) => met_again(alloc, goal, trail, question, number, place),
+            None => Ok(Repeat::New(question)),
+        },
         Both::Lost(question) => Ok(Repeat::New(question)),
         Both::Unknown(cause) => Ok(Repeat::Unknown(cause)),
     }
 }
 
-/// The same, where the walk has met the question.
+/// The same, where the walk has met the question, which has this number.
 fn met_again(
     alloc: Global,
     goal: &Goal,
     trail: &mut Trail,
     atom: Atom,
+    number: usize,
     place: &Place,
 ) -> Result<Repeat, AllocError>
     requires path { IsPath (goal_of goal.now) (path_of trail.old.path.items) }
     requires short { length trail.old.path.items + 1 + length goal.now.vars.items < 2 ^ 32 }
     requires stands { Stands (goal_of goal.now) trail.old }
     requires goes_on { GoesOn (goal_of goal.now) (path_of trail.old.path.items) (atom_of atom) }
+    requires number { IsNumber trail.old.atoms (atom_of atom) number }
     requires on { IsOn (goal_of goal.now) (path_of trail.old.path.items) place.now }
     ensures { IfOk result (λ r. IsRepeat (goal_of goal.now) (path_of trail.old.path.items) (atom_of atom) trail.new r) }
 {
     let lasts = asks_on(place, trail.path.len());
-    match trail.atoms.recall(&atom, &trail.rows) {
-        Some(recalled) => if lasts {
-            again(alloc, trail, atom, recalled)
-        } else {
-            Ok(Repeat::New(atom))
-        },
-        None => Ok(Repeat::New(atom)),
+    match trail.atoms.recall(number, &trail.rows) {
+        Some(recalled) if lasts => again(alloc, trail, atom, recalled),
+        _ => Ok(Repeat::New(atom)),
     }
 }
 

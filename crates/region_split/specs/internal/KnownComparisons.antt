@@ -1,5 +1,5 @@
 -- Comparisons that are known with the rows of both answers.
-use Rattle.std.specs.Prelude.{◌≡◌, ℕ, ◌<◌, List, [], ◌∷◌, length, Bool, true, false, not, Some}
+use Rattle.std.specs.Prelude.{◌≡◌, ℕ, ◌<◌, List, [], ◌∷◌, length, Bool, true, false, not, Some, get_or}
 use Rattle.std.specs.List.{All}
 use Rattle.heylo_formula.specs.Typing.{types_in}
 use Rattle.heylo_formula.specs.declared.types.Ty.{Ty}
@@ -29,6 +29,10 @@ pub record IsKnownQuestion (types : List Ty) (k : Known) : Type 0 where
 
 abbrev pub AreKnown : List Ty → List Known → Type 0
 AreKnown types ks = All (IsKnownQuestion types) ks
+
+-- The comparison of this number asks the question.
+abbrev pub IsNumber : List Known → Atom → ℕ → Type 0
+IsNumber ks q n = (d : Known) → question_of (get_or ks n d) ≡ q
 
 -- The row at the index is that of this answer to the question, and it clashes with the row of the other answer.
 pub record IsRecalled (types : List Ty) (rows : List Row) (q : Atom) (r : Recalled) : Type 0 where

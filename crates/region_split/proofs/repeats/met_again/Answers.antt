@@ -1,5 +1,4 @@
-use Rattle.std.proofs.Common.{◌≡◌, length, refl, subst, arith, true, false}
-use Rattle.std.specs.Prelude.{IfSome}
+use Rattle.std.proofs.Common.{◌≡◌, length, refl, subst, arith}
 use Rattle.std.proofs.lemmas.List.{length-map}
 use Rattle.heylo_formula.specs.Goals.{goal_of}
 use Rattle.linear_form.specs.PlainPaths.{path_of, atom_of, taken_of}
@@ -20,11 +19,11 @@ again-requires-clause-few c =
 pub again-requires-clause-inside : goal.again-requires-clause-inside
 again-requires-clause-inside c =
     let g = goal_of c.args.goal.now in
-    let r = rw c.in-Some.is at (c.recall.ensures.recalled g.types c.requires.stands.known) in
+    let r = rw c.in-Some.is at (c.recall.ensures.recalled g.types (atom_of c.args.atom) c.requires.stands.known c.requires.number) in
     (subst (λ rows. IsRecalled g.types rows (atom_of c.args.atom) c.in-Some.recalled) c.deref.ensures.value r).inside
 
-pub returns-then-lasts : goal.returns-then-lasts
-returns-then-lasts c =
+pub returns-in-Some : goal.returns-in-Some
+returns-in-Some c =
     let g = goal_of c.args.goal.now in
     let ps = path_of c.args.trail.now.path.items in
     let q = atom_of c.args.atom in
@@ -37,11 +36,8 @@ returns-then-lasts c =
       goes_on = c.requires.goes_on;
       lasts = λ held. c.asks_on-lasts.ensures g ps (taken q held) t n c.requires.on (question_path g ps q held c.requires.path c.requires.goes_on);
     } in
-    let r = rw c.in-Some.is at (c.recall.ensures.recalled g.types c.requires.stands.known) in
+    let r = rw c.in-Some.is at (c.recall.ensures.recalled g.types q c.requires.stands.known c.requires.number) in
     c.again.ensures g ps f (stands_still g c.args.trail.now _ c.requires.stands refl refl refl refl refl (c.recall.ensures.known g.types c.requires.stands.known)) (subst (λ rows. IsRecalled g.types rows q c.in-Some.recalled) c.deref.ensures.value r)
 
-pub returns-else-lasts : goal.returns-else-lasts
-returns-else-lasts c = let g = goal_of c.args.goal.now in (refl, stands_still g c.args.trail.now _ c.requires.stands refl refl refl refl refl (c.recall.ensures.known g.types c.requires.stands.known))
-
-pub returns-in-None : goal.returns-in-None
-returns-in-None c = let g = goal_of c.args.goal.now in (refl, stands_still g c.args.trail.now _ c.requires.stands refl refl refl refl refl (c.recall.ensures.known g.types c.requires.stands.known))
+pub returns-in_default : goal.returns-in_default
+returns-in_default c = let g = goal_of c.args.goal.now in (refl, stands_still g c.args.trail.now _ c.requires.stands refl refl refl refl refl (c.recall.ensures.known g.types c.requires.stands.known))
