@@ -42,10 +42,8 @@ pub struct Recalled {
 pub fn copy_row(alloc: Global, row: &Row) -> Result<Row, AllocError>
     ensures { IfOk result (λ r. r ≡ row.now) }
 {
-    let mut terms = Vec::new(alloc);
-    terms.extend_from_slice(&row.terms)?;
     Ok(Row {
-        terms,
+        terms: Vec::from_slice(alloc, &row.terms)?,
         rest: row.rest,
         strict: row.strict,
     })

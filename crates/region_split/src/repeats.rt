@@ -1,6 +1,6 @@
 //! Questions that the path has answered before.
 
-ghost use Rattle.std.specs.Prelude.{◌≡◌, ◌<◌, ◌+◌, ◌^◌, ◌∷◌, [], List, length, IfOk};
+ghost use Rattle.std.specs.Prelude.{◌<◌, ◌+◌, ◌^◌, List, length, IfOk};
 ghost use Rattle.heylo_formula.specs.Goals.{Goal as PlainGoal, goal_of};
 ghost use Rattle.linear_form.specs.Cells.{GoesOn};
 ghost use Rattle.linear_form.specs.Paths.{IsPath};
@@ -100,7 +100,9 @@ fn again(
 {
     repeated_rows_stand();
     let row = copy_row(alloc, &trail.rows[recalled.index])?;
-    let multipliers = pair(alloc, recalled.index, trail.rows.len())?;
+    let first = recalled.index as u32;
+    let second = trail.rows.len() as u32;
+    let multipliers = vec![in alloc; (first, 1), (second, 1)]?;
     if recalled.held {
         let answer = Taken { atom, held: true };
         further(trail, answer, Way::Closed(multipliers), row)?;
@@ -110,16 +112,4 @@ fn again(
         further(trail, answer, Way::Closed(Vec::new(alloc)), row)?;
         Ok(Repeat::No(multipliers))
     }
-}
-
-/// Multipliers that add up two rows. Want of memory is the one error.
-fn pair(alloc: Global, first: usize, second: usize) -> Result<Vec<(u32, u64)>, AllocError>
-    requires first { first < 2 ^ 32 }
-    requires second { second < 2 ^ 32 }
-    ensures { IfOk result (λ v. v.items ≡ ((first, 1) ∷ ((second, 1) ∷ []))) }
-{
-    let mut multipliers = Vec::with_capacity(alloc, 2)?;
-    multipliers.push((first as u32, 1))?;
-    multipliers.push((second as u32, 1))?;
-    Ok(multipliers)
 }
