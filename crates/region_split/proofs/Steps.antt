@@ -29,7 +29,7 @@ use Rattle.linear_rows.specs.Row.{Row}
 use Rattle.region_split.specs.internal.PathFindings.{AreRowsAt, EndsWalk, IsEnd, IsEndOf, IsPointAt, IsMetAt}
 use Rattle.region_split.specs.declared.front.End as E
 use Rattle.region_split.proofs.Trails.{starts_length}
-use Rattle.region_split.specs.internal.Trails.{Comes, ComesBy, Stands, StandsAt, IsDroppedBy}
+use Rattle.region_split.specs.internal.Trails.{Comes, ComesBy, Rises, Stands, StandsAt, IsDroppedBy}
 use Rattle.region_split.specs.internal.Progress.{EndsPiece, HoldsAt, AreShort, IsBroken, IsCellStand, IsClosed, IsGrown, IsLeaf, KnowsPoint, IsBranch, HasBefore, IsAfter, HasRisen, IsNextFront, IsFound, HasCome, IsWalk, IsStandingWalk, IsFinishedWalk, IsBelow, IsStep, IsJudgedCell, rest_of, left_of}
 use Rattle.region_split.specs.declared.findings.Found.{Found}
 use Rattle.region_split.specs.declared.trail.Trail.{Trail}
@@ -75,7 +75,7 @@ last_tree trees others (Some t) known tree k n e = e
 last_tree trees others None [] tree k n e = let l = n refl in let m = ap length k in absurd (omega (arith, l, m))
 last_tree trees others None (x ∷ known) tree k n e = let l = n refl in let m : length (x ∷ (known ++ (tree ∷ []))) ≡ length trees = ap length k in absurd (omega (arith, l, m))
 
-pub question_finished : (g : Goal) (all : List (List Taken)) (from : List Taken) (t before : Trail) (trees others : List (Option F.Tree)) (tree joined : Option F.Tree) (left : Option (Option F.Tree)) (flat : Option F.Tree) (p : T.Taken) → HasRisen g all from t trees tree → Stands g before → path_of t.path.items ≡ path_of before.path.items ++ (taken_of p ∷ []) → p.held ≡ false → (left ≡ None → length trees ≡ 0) → trees ≡ others ++ option_to_list left → flat ≡ option_flatten left → ((ps : List Taken) (q : Atom) → GoesOn g ps q → IsGrown g (onto ps q true) flat → IsGrown g (onto ps q false) tree → IsGrown g ps joined) → HasRisen g all from before others joined
+pub question_finished : (g : Goal) (all : List (List Taken)) (from : List Taken) (t before : Trail) (trees others : List (Option F.Tree)) (tree joined : Option F.Tree) (left : Option (Option F.Tree)) (flat : Option F.Tree) (p : T.Taken) → HasRisen g all from t trees tree → Rises g before → path_of t.path.items ≡ path_of before.path.items ++ (taken_of p ∷ []) → p.held ≡ false → (left ≡ None → length trees ≡ 0) → trees ≡ others ++ option_to_list left → flat ≡ option_flatten left → ((ps : List Taken) (q : Atom) → GoesOn g ps q → IsGrown g (onto ps q true) flat → IsGrown g (onto ps q false) tree → IsGrown g ps joined) → HasRisen g all from before others joined
 question_finished g all from t before trees others tree joined left flat p r z e h n f k j =
     let xs = path_of before.path.items in
     let b = path_onto xs (path_of t.path.items) p false e h in
@@ -83,13 +83,13 @@ question_finished g all from t before trees others tree joined left flat p r z e
     let s = in_second g (onto xs (atom_of p.atom) false) xs (atom_of p.atom) d.before trees refl d.stands in
     let u = last_tree trees others left s.others s.tree s.whole_trees n f in
     record {
-      stands = z;
+      rises = z;
       after = after_second g xs (atom_of p.atom) trees others all (option_flatten left) tree joined d u (λ m x y. j xs (atom_of p.atom) m (subst (IsGrown g (onto xs (atom_of p.atom) true)) (sym k) x) y);
       rest = let e = rest_up g xs (atom_of p.atom) s.goes_on in let m = ap (rest_of (questions g)) b in let l = r.rest in omega (arith, e, m, l);
     }
 
 -- where the second branch isn't visited
-pub question_closed : (g : Goal) (all : List (List Taken)) (from : List Taken) (t before : Trail) (trees : List (Option F.Tree)) (tree right joined : Option F.Tree) (p : T.Taken) (ms : Vec (ℕ × ℕ) Global) (n : ℕ) → HasRisen g all from t trees tree → Stands g before → path_of t.path.items ≡ path_of before.path.items ++ (taken_of p ∷ []) → p.held ≡ true → (p.held ≡ true → IsDroppedBy g (onto (path_of before.path.items) (atom_of p.atom) false) ms.items) → n ≡ length (path_of t.path.items) → IsLeaf n (F.Farkas ms) right → ((ps : List Taken) (q : Atom) → GoesOn g ps q → IsGrown g (onto ps q true) tree → IsGrown g (onto ps q false) right → IsGrown g ps joined) → HasRisen g all from before trees joined
+pub question_closed : (g : Goal) (all : List (List Taken)) (from : List Taken) (t before : Trail) (trees : List (Option F.Tree)) (tree right joined : Option F.Tree) (p : T.Taken) (ms : Vec (ℕ × ℕ) Global) (n : ℕ) → HasRisen g all from t trees tree → Rises g before → path_of t.path.items ≡ path_of before.path.items ++ (taken_of p ∷ []) → p.held ≡ true → (p.held ≡ true → IsDroppedBy g (onto (path_of before.path.items) (atom_of p.atom) false) ms.items) → n ≡ length (path_of t.path.items) → IsLeaf n (F.Farkas ms) right → ((ps : List Taken) (q : Atom) → GoesOn g ps q → IsGrown g (onto ps q true) tree → IsGrown g (onto ps q false) right → IsGrown g ps joined) → HasRisen g all from before trees joined
 question_closed g all from t before trees tree right joined p ms n r z e h w m k j =
     let xs = path_of before.path.items in
     let b = path_onto xs (path_of t.path.items) p true e h in
@@ -101,7 +101,7 @@ question_closed g all from t before trees tree right joined p ms n r z e h w m k
     let o : n ≡ length (onto xs (atom_of p.atom) false) = omega (arith, m, l, a, c) in
     let f = dropped_leaf g (onto xs (atom_of p.atom) false) ms right (subst (λ i. IsLeaf i (F.Farkas ms) right) o k) (w h) in
     record {
-      stands = z;
+      rises = z;
       after = after_first g xs (atom_of p.atom) trees all tree right joined d f (j xs (atom_of p.atom));
       rest = let u = rest_up_first g xs (atom_of p.atom) s.goes_on in let m = ap (rest_of (questions g)) b in let l = r.rest in omega (arith, u, m, l);
     }

@@ -1,5 +1,5 @@
 -- What stands along a path, when an answer comes to it and when the last one is taken off.
-use Rattle.std.proofs.Common.{◌≡◌, ℕ, ◌-◌, ◌≤◌, List, [], ◌∷◌, ◌++◌, length, take, drop, refl, sym, ap, ◌∙◌, subst, arith, length-append, true, false}
+use Rattle.std.proofs.Common.{◌≡◌, ℕ, ◌-◌, ◌≤◌, List, [], ◌∷◌, ◌++◌, length, take, drop, refl, sym, ap, ◌∙◌, subst, arith, length-append, append_assoc, true, false}
 use Rattle.std.specs.Prelude.{Option, Some, None, slice_get}
 use Rattle.std.proofs.lemmas.List.{append-nil, map-append, take-append-drop, take-take, length-take, length-map}
 use Rattle.std.proofs.Math.Seq.{take-append_seam}
@@ -23,7 +23,7 @@ use Rattle.linear_guess.specs.declared.search.Search.{Search}
 use Rattle.region_split.specs.declared.trail.Way.{Way}
 use Rattle.region_split.specs.declared.trail.Way.TheVariants.{Open}
 use Rattle.region_split.specs.declared.trail.Trail.{Trail}
-use Rattle.region_split.specs.internal.Trails.{IsWay, ArePlaces, AreRowsSoFar, Comes, Stands, StandsAt, ComesBy, StoodBefore}
+use Rattle.region_split.specs.internal.Trails.{IsWay, ArePlaces, AreRowsSoFar, Comes, Rises, Stands, StandsAt, ComesBy, StoodBefore}
 use Rattle.region_split.specs.internal.KnownComparisons.{AreKnown}
 use Rattle.region_split.proofs.WalkMoves.{snoc_first, snoc_last, snoc_not_empty}
 
@@ -182,8 +182,14 @@ rows_first g ps rows list h e = go
 
 -- ---- Trails
 
+-- at the start of the way up
+pub rises : (g : Goal) (t : Trail) → Stands g t → Rises g t
+rises g t h =
+    let e = sym (append-nil t.rows.items) in
+    record { places = h.places; rows = h.rows; more = []; occurrences = subst (λ rows. AreOccurrences (length g.types) rows t.occurrences) e h.occurrences; remembers = subst (Remembers t.search.value) e h.remembers; known = h.known }
+
 -- without its last answer
-pub stood_before : (g : Goal) (t before : Trail) (answer : T.Taken) (way : Way) (left count : ℕ) → Stands g t → t.path.items ≡ before.path.items ++ (answer ∷ []) → t.places.items ≡ before.places.items ++ (way ∷ []) → length (answer_claims (atom_of answer.atom) answer.held) ≡ count → left ≡ length t.rows.items - count → before.rows.items ≡ take left t.rows.items → AreOccurrences (length g.types) before.rows.items before.occurrences → Remembers before.search.value before.rows.items → AreKnown g.types before.atoms → StoodBefore g t before answer way
+pub stood_before : (g : Goal) (t before : Trail) (answer : T.Taken) (way : Way) (left count : ℕ) → Rises g t → t.path.items ≡ before.path.items ++ (answer ∷ []) → t.places.items ≡ before.places.items ++ (way ∷ []) → length (answer_claims (atom_of answer.atom) answer.held) ≡ count → left ≡ length t.rows.items - count → before.rows.items ≡ take left t.rows.items → before.occurrences ≡ t.occurrences → before.search ≡ t.search → AreKnown g.types before.atoms → StoodBefore g t before answer way
 stood_before g t before answer way left count h p q n l r o m kn =
     let ps = path_of before.path.items in
     let e : path_of t.path.items ≡ ps ++ (taken_of answer ∷ []) = ap path_of p ∙ map-append taken_of before.path.items (answer ∷ []) in
@@ -193,18 +199,20 @@ stood_before g t before answer way left count h p q n l r o m kn =
     let b = claims_counted ps (atom_of answer.atom) answer.held in
     let c : length (path_claims ps) ≡ left = omega (arith, a, b, n, l) in
     let d = subst (λ j. ArePathRows g ps (take j t.rows.items)) c (path_rows_first g ps (taken_of answer ∷ []) t.rows.items k) in
+    let more = drop left t.rows.items ++ h.more in
+    let w : t.rows.items ++ h.more ≡ before.rows.items ++ more = ap (λ xs. xs ++ h.more) (sym (take-append-drop left t.rows.items)) ∙ append_assoc (take left t.rows.items) (drop left t.rows.items) h.more ∙ ap (λ xs. xs ++ more) (sym r) in
     record {
-      stands = record { places = s.are_places; rows = subst (ArePathRows g ps) (sym r) d; occurrences = o; remembers = m; known = kn };
+      rises = record { places = s.are_places; rows = subst (ArePathRows g ps) (sym r) d; more = more; occurrences = subst (λ x. AreOccurrences (length g.types) (before.rows.items ++ more) x) (sym o) (subst (λ rows. AreOccurrences (length g.types) rows t.occurrences) w h.occurrences); remembers = subst (λ x. Remembers x.value (before.rows.items ++ more)) (sym m) (subst (Remembers t.search.value) w h.remembers); known = kn };
       asked = s.on;
       path = e;
     }
 
 -- there is an evaluation
-pub no_places : (g : Goal) (t : Trail) → Stands g t → length t.places.items ≡ 0 → ⊥
+pub no_places : (g : Goal) (t : Trail) → Rises g t → length t.places.items ≡ 0 → ⊥
 no_places g t h e = let l = has_last g (path_of t.path.items) t.places.items h.places in let i = ap length l.split ∙ length-append l.before (l.last ∷ []) in absurd (omega (arith, e, i))
 
 -- with one more answer
-pub comes_by : (g : Goal) (t next : Trail) (answer : T.Taken) (way : Way) → Stands g t → IsWay g (path_of t.path.items) (taken_of answer) way → next.path.items ≡ t.path.items ++ (answer ∷ []) → next.places.items ≡ t.places.items ++ (way ∷ []) → next.rows ≡ t.rows → next.occurrences ≡ t.occurrences → next.search ≡ t.search → AreKnown g.types next.atoms → ComesBy g t answer next
+pub comes_by : (g : Goal) (t next : Trail) (answer : T.Taken) (way : Way) → Rises g t → IsWay g (path_of t.path.items) (taken_of answer) way → next.path.items ≡ t.path.items ++ (answer ∷ []) → next.places.items ≡ t.places.items ++ (way ∷ []) → next.rows ≡ t.rows → AreOccurrences (length g.types) t.rows.items next.occurrences → Remembers next.search.value t.rows.items → AreKnown g.types next.atoms → ComesBy g t answer next
 comes_by g t next answer way h o p q r n s kn =
     let ps = path_of t.path.items in
     let e : path_of next.path.items ≡ ps ++ (taken_of answer ∷ []) = ap path_of p ∙ map-append taken_of t.path.items (answer ∷ []) in
@@ -213,8 +221,8 @@ comes_by g t next answer way h o p q r n s kn =
       comes = record {
         places = subst (λ qs. ArePlaces g qs next.places.items) (sym e) (subst (ArePlaces g (ps ++ (taken_of answer ∷ []))) (sym q) (ArePlaces.answer ps (taken_of answer) t.places.items way h.places o));
         rows = AreRowsSoFar.answer (path_of next.path.items) next.rows.items (record { before = ps; last = taken_of answer; split = e; are_rows = subst (λ v. ArePathRows g ps v.items) (sym r) h.rows });
-        occurrences = subst (λ x. AreOccurrences (length g.types) next.rows.items x) (sym n) (subst (λ v. AreOccurrences (length g.types) v.items t.occurrences) (sym r) h.occurrences);
-        remembers = subst (λ x. Remembers x.value next.rows.items) (sym s) (subst (λ v. Remembers t.search.value v.items) (sym r) h.remembers);
+        occurrences = subst (λ v. AreOccurrences (length g.types) v.items next.occurrences) (sym r) n;
+        remembers = subst (λ v. Remembers next.search.value v.items) (sym r) s;
         known = kn;
       };
     }

@@ -6,7 +6,7 @@ ghost use Rattle.linear_form.specs.PathRows.{answer_claims};
 ghost use Rattle.linear_form.specs.PlainPaths.{path_of, atom_of, taken_of};
 ghost use Rattle.linear_form.specs.Query.{Taken as PlainTaken};
 ghost use Rattle.linear_form.specs.RowLists.{ArePathRows};
-ghost use Rattle.region_split.specs.internal.Trails.{Comes, Stands, StandsAt, IsWay, IsBack, ComesBy};
+ghost use Rattle.region_split.specs.internal.Trails.{Comes, Rises, Stands, StandsAt, IsWay, IsBack, ComesBy};
 
 use crate::atoms::Atoms;
 use heylo_formula::Goal;
@@ -58,10 +58,14 @@ pub fn start(alloc: Global, goal: &Goal) -> Result<Trail, AllocError>
     })
 }
 
-/// Takes an answer to a question, of which this is kept, onto the trail. The answer has no row yet. Want of memory is the one error.
+/// Takes an answer to a question, of which this is kept, onto the trail, and forgets what was found of rows that are taken off. The
+/// answer has no row yet. Want of memory is the one error.
 pub fn onward(trail: &mut Trail, answer: Taken, way: Way) -> Result<(), AllocError>
-    ensures { (g : PlainGoal) → Stands g trail.old → IsWay g (path_of trail.old.path.items) (taken_of answer) way → IfOk result (λ _. ComesBy g trail.old answer trail.new) }
+    ensures { (g : PlainGoal) → Rises g trail.old → IsWay g (path_of trail.old.path.items) (taken_of answer) way → IfOk result (λ _. ComesBy g trail.old answer trail.new) }
 {
+    let count = trail.rows.len();
+    trail.occurrences.truncate(count);
+    trail.search.truncate(count);
     trail.path.push(answer)?;
     trail.places.push(way)?;
     Ok(())
@@ -99,9 +103,9 @@ fn row_count(atom: &Atom) -> usize
     }
 }
 
-/// Takes off the last answer, with its row, and forgets what was found of it. Gives the answer and what was kept of its question.
+/// Takes off the last answer, with its row. Gives the answer and what was kept of its question.
 pub fn back(trail: &mut Trail) -> Option<(Taken, Way)>
-    ensures back { (g : PlainGoal) → Stands g trail.old → IsBack g trail.old trail.new result }
+    ensures back { (g : PlainGoal) → Rises g trail.old → IsBack g trail.old trail.new result }
     ensures shorter { IfSome result (λ _. length trail.new.path.items < length trail.old.path.items) }
 {
     let Some(answer) = trail.path.pop() else {
@@ -112,7 +116,5 @@ pub fn back(trail: &mut Trail) -> Option<(Taken, Way)>
     };
     let left = trail.rows.len().saturating_sub(row_count(&answer.atom));
     trail.rows.truncate(left);
-    trail.occurrences.truncate(left);
-    trail.search.truncate(left);
     Some((answer, way))
 }

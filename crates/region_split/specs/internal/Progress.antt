@@ -33,7 +33,7 @@ use Rattle.region_split.specs.Walk.{AreBefore, AreCells}
 use Rattle.region_split.specs.WalkTree.{IsWalkTree, IsPieceTree}
 use Rattle.region_split.specs.PathPoints.{Breaks, IsBreakOf}
 use Rattle.region_split.specs.Decisions.{IsCause, IsDecision, IsFirstPoint, IsFirstBreak, IsLookedAt}
-use Rattle.region_split.specs.internal.Trails.{Comes, Stands}
+use Rattle.region_split.specs.internal.Trails.{Comes, Rises, Stands}
 use Rattle.region_split.specs.declared.findings.Found.{Found}
 use Rattle.region_split.specs.declared.findings.Found.TheVariants.{Nothing, Break, Point}
 use Rattle.region_split.specs.declared.cell.Cell.{Cell}
@@ -220,7 +220,7 @@ IsUp g ps all t trees (Whole tree) = IsBranch g [] all tree
 -- Where a way up from a path has come to: all these cells lie up to the branch at which the trail stands now, and no more is left to
 -- its right.
 pub record HasRisen (g : Goal) (all : List (List Taken)) (from : List Taken) (t : Trail) (trees : List (Option T.Tree)) (tree : Option T.Tree) : Type 0 where
-  pub stands : Stands g t
+  pub rises : Rises g t
   pub after : IsAfter g (path_of t.path.items) trees all tree
   pub rest : rest_of (questions g) (path_of t.path.items) ≤ rest_of (questions g) from
 

@@ -55,6 +55,15 @@ pub record Stands (g : Goal) (t : Trail) : Type 0 where
   pub remembers : Remembers t.search.value t.rows.items
   pub known : AreKnown g.types t.atoms
 
+-- The trail goes up: more rows than it has now were there, and it keeps what was found of them.
+pub record Rises (g : Goal) (t : Trail) : Type 0 where
+  pub places : ArePlaces g (path_of t.path.items) t.places.items
+  pub rows : ArePathRows g (path_of t.path.items) t.rows.items
+  pub more : List Row
+  pub occurrences : AreOccurrences (length g.types) (t.rows.items ++ more) t.occurrences
+  pub remembers : Remembers t.search.value (t.rows.items ++ more)
+  pub known : AreKnown g.types t.atoms
+
 -- The trail stands at this path.
 pub record StandsAt (g : Goal) (ps : List Taken) (t : Trail) : Type 0 where
   pub stands : Stands g t
@@ -65,9 +74,9 @@ pub record ComesBy (g : Goal) (from : Trail) (answer : T.Taken) (t : Trail) : Ty
   pub comes : Comes g t
   pub path : path_of t.path.items ≡ path_of from.path.items ++ (taken_of answer ∷ [])
 
--- The trail stood there before this answer, of which this was kept.
+-- The trail was there before this answer, of which this was kept.
 pub record StoodBefore (g : Goal) (t : Trail) (before : Trail) (answer : T.Taken) (way : Way) : Type 0 where
-  pub stands : Stands g before
+  pub rises : Rises g before
   pub asked : IsWay g (path_of before.path.items) (taken_of answer) way
   pub path : path_of t.path.items ≡ path_of before.path.items ++ (taken_of answer ∷ [])
 

@@ -7,6 +7,7 @@ use Rattle.linear_form.proofs.exported.Places.{place_stays}
 use Rattle.region_split.specs.internal.Progress.{left_of}
 use Rattle.region_split.proofs.WalkMoves.{left_first, left_of_second}
 use Rattle.region_split.proofs.Steps.{path_length, come_asked, come_path, walk_short, with_trail, standing, standing_first, standing_second, deeper_walk, step_below, front_ends}
+use Rattle.region_split.proofs.Trails.{rises}
 use Rattle.region_split.proofs.descent.deeper.Goals as goal
 
 pub repeated-requires-clause-path : goal.repeated-requires-clause-path
@@ -24,7 +25,7 @@ returns-in_ok-onward-in-New c =
     let t = c.repeated.new.trail in
     let k = subst (λ qs. GoesOn g qs (atom_of c.in-New.question)) (sym r.1.path) (subst (GoesOn g ps) (sym r.0) a.goes_on) in
     let o = subst (λ qs. IsOn g qs c.args.place) (sym r.1.path) a.on in
-    let d = deeper_walk g (with_trail c.args.walk.now t) _ (record { atom = c.in-New.question; held = true }) (standing g c.args.walk.now t a.stands.come r.1) k (c.in_ok-onward-in-New.ensures g r.1.stands o) refl refl refl refl in
+    let d = deeper_walk g (with_trail c.args.walk.now t) _ (record { atom = c.in-New.question; held = true }) (standing g c.args.walk.now t a.stands.come r.1) k (c.in_ok-onward-in-New.ensures g (rises g t r.1.stands) o) refl refl refl refl in
     let e = ap (left_of g) r.1.path in
     (d.0, let l = d.1 in omega (arith, l, e))
 

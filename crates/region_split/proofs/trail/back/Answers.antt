@@ -1,7 +1,5 @@
-use Rattle.std.proofs.Common.{take, length, length-append, [], ◌∷◌, ap, ◌∙◌, sym, subst, arith}
-use Rattle.linear_rows.specs.Occurrences.{AreOccurrences}
-use Rattle.linear_guess.specs.Searches.{Remembers}
-use Rattle.region_split.proofs.Trails.{stood_before, no_places, taken_twice}
+use Rattle.std.proofs.Common.{length, length-append, [], ◌∷◌, refl, ap, ◌∙◌, arith}
+use Rattle.region_split.proofs.Trails.{stood_before, no_places}
 use Rattle.region_split.proofs.trail.back.Goals as goal
 
 pub returns-in_default-pop-clause-back : goal.returns-in_default-pop-clause-back
@@ -12,7 +10,7 @@ returns-clause-back c g h =
     let e = c.saturating_sub-left.ensures in
     let f = c.len.ensures in
     let o = c.args.trail.now.rows.ok.0 in
-    stood_before g c.args.trail.now _ _ c.in-Some-pop.way c.saturating_sub-left.result c.row_count.result h c.in-Some.ensures.items c.in-Some-pop.ensures.items (c.row_count.ensures c.in-Some.answer.held) (omega (arith, e, f, o)) c.truncate.ensures.items (subst (λ rows. AreOccurrences (length g.types) rows c.truncate-2.new.self) (sym c.truncate.ensures.items) (c.truncate-2.ensures (length g.types) c.args.trail.now.rows.items h.occurrences)) (c.truncate-3.ensures c.args.trail.now.rows.items c.truncate.new.self.items (subst (λ s. Remembers s c.args.trail.now.rows.items) (sym c.deref_mut.ensures.value) h.remembers) (taken_twice c.args.trail.now.rows.items c.saturating_sub-left.result ∙ ap (take c.saturating_sub-left.result) (sym c.truncate.ensures.items))) h.known
+    stood_before g c.args.trail.now _ _ c.in-Some-pop.way c.saturating_sub-left.result c.row_count.result h c.in-Some.ensures.items c.in-Some-pop.ensures.items (c.row_count.ensures c.in-Some.answer.held) (omega (arith, e, f, o)) c.truncate.ensures.items refl refl h.known
 
 pub returns-clause-shorter : goal.returns-clause-shorter
 returns-clause-shorter c = let i = ap length c.in-Some.ensures.items ∙ length-append c.pop.new.self.items (c.in-Some.answer ∷ []) in omega (arith, i)
