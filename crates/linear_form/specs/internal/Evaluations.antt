@@ -1,15 +1,15 @@
 -- Evaluations that stand somewhere, as trees of questions: what is evaluated next, and then what waits for it.
-use Rattle.std.specs.Prelude.{ℕ, ◌+◌, List, [], ◌∷◌}
+use Rattle.std.specs.Prelude.{ℕ, ◌+◌, Bool, false, List, [], ◌∷◌}
 use Rattle.linear_form.specs.Query.{Query, next}
 use Rattle.linear_form.specs.Query.Query.{done, bits}
 use Rattle.linear_form.specs.Questions.{Ends}
 use Rattle.linear_form.specs.Standings.{Standing}
 use Rattle.linear_form.specs.internal.Outcomes.{Result, IsKeptResult}
-use Rattle.linear_form.specs.internal.Parts.{after_first, after_second, asked, IsReady, IsReadyWork, later_weight, part_weight}
+use Rattle.linear_form.specs.internal.Parts.{after_first, after_second, asked, IsReady, IsReadyWork, later_weight, notes_later, part_weight}
 use Rattle.linear_form.specs.internal.PlainParts.{outcome_of, part_of, work_of}
-use Rattle.linear_form.specs.declared.evaluations.Evaluation.{Evaluation}
-use Rattle.linear_form.specs.declared.evaluations.Focus as F
-use Rattle.linear_form.specs.declared.evaluations.Frame as W
+use Rattle.linear_form.specs.declared.places.Evaluation.{Evaluation}
+use Rattle.linear_form.specs.declared.places.Focus as F
+use Rattle.linear_form.specs.declared.places.Frame as W
 
 -- What the focus asks: a part its questions, an outcome nothing.
 abbrev pub asked_by : F.Focus → Query Result
@@ -64,6 +64,11 @@ AreReadyFrames (f ∷ fs) = IsReadyFrame f × AreReadyFrames fs
 -- Of all parts of an evaluation.
 abbrev pub IsReadyEvaluation : Evaluation → Type 0
 IsReadyEvaluation e = IsReadyFocus e.focus × AreReadyFrames e.frames.items
+
+-- Whether it is noted of a part that waits that a comparison is asked once it has its outcome.
+abbrev pub frame_asks : W.Frame → Bool
+frame_asks (W.TheVariants.First p) = notes_later (work_of p.value.work)
+frame_asks (W.TheVariants.Second p o) = false
 
 -- ---- How much is left to do
 

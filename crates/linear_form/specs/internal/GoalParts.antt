@@ -1,5 +1,5 @@
 -- The parts of a goal, by the trees of its graph.
-use Rattle.std.specs.Prelude.{◌≡◌, ℕ, true, false, List, [], Result, Ok, Err, slice_get, Some, if◌then◌else◌}
+use Rattle.std.specs.Prelude.{◌≡◌, ℕ, true, false, List, [], Result, Ok, Err, slice_get, Some}
 use Rattle.heylo_formula.specs.Goals.{Goal}
 use Rattle.heylo_graph.specs.Trees.{Tree}
 use Rattle.heylo_graph.specs.Nodes.{tree_at}
@@ -10,16 +10,16 @@ use Rattle.linear_form.specs.Questions as q
 use Rattle.linear_form.specs.PlainPaths.{atom_of}
 use Rattle.linear_form.specs.internal.Run.{Evaluation, along}
 use Rattle.linear_form.specs.internal.Outcomes as outcomes
-use Rattle.linear_form.specs.internal.Outcomes.{IsKeptResult, of_bool, valued, told}
+use Rattle.linear_form.specs.internal.Outcomes.{IsKeptResult, valued, told}
 use Rattle.linear_form.specs.internal.Parts as parts
-use Rattle.linear_form.specs.internal.Parts.{Work, asked, asked_by_work, operated, IsReady, IsReadyWork}
+use Rattle.linear_form.specs.internal.Parts.{Work, asked, asked_by_work, IsReady, IsReadyWork}
 use Rattle.linear_form.specs.internal.PlainParts.{outcome_of, part_of, work_of}
 use Rattle.linear_form.specs.internal.Evaluations.{ended}
 use Rattle.linear_form.specs.declared.parts.Operation.{Operation}
 use Rattle.linear_form.specs.declared.parts.Part.{Part}
 use Rattle.linear_form.specs.declared.parts.Work as W
 use Rattle.linear_form.specs.declared.cursor.Stop as S
-use Rattle.linear_form.specs.declared.operations.Came.{Came}
+use Rattle.linear_form.specs.declared.parts.Outcome as O
 
 -- What a tree asks: a formula for its value, a condition for its truth.
 abbrev pub asked_of : Tree → Query outcomes.Result
@@ -51,21 +51,6 @@ pub record IsGoalPart (g : Goal) (p : Part) : Type 0 where
   pub asks : next (asked (part_of p)) ended ≡ q.all_questions g
   pub ready : IsReady (part_of p)
 
--- The operator over the parts of two trees.
-pub record IsTwoOf (o : Operation) (t u : Tree) (w : W.Work) : Type 0 where
-  pub asks : asked_by_work (work_of w) ≡ next (asked_of t) (λ r. next (asked_of u) (λ s. operated o r s))
-  pub ready : IsReadyWork (work_of w)
-
--- The operator over the part of one tree.
-pub record IsOneOf (o : Operation) (t : Tree) (w : W.Work) : Type 0 where
-  pub asks : asked_by_work (work_of w) ≡ next (asked_of t) (λ r. operated o r r)
-  pub ready : IsReadyWork (work_of w)
-
--- One of two parts, by the truth of the part of a tree.
-pub record IsChoiceOf (t : Tree) (p u : parts.Part) (w : W.Work) : Type 0 where
-  pub asks : asked_by_work (work_of w) ≡ next (asked_of t) (of_bool (λ b. if b then asked p else asked u))
-  pub ready : IsReady p → IsReady u → IsReadyWork (work_of w)
-
 -- The part asks what is done here.
 pub record IsReadyAs (w : Work) (p : Part) : Type 0 where
   pub asks : asked (part_of p) ≡ asked_by_work w
@@ -73,19 +58,46 @@ pub record IsReadyAs (w : Work) (p : Part) : Type 0 where
 
 -- ---- What is done before all answers
 
--- What is done is a comparison alone.
-pub data Compares : Work → Type 0 where
-  at_most : (p u : parts.Part) → Compares (Work.two Operation.AtMost p u)
-  less : (p u : parts.Part) → Compares (Work.two Operation.Less p u)
+-- What is done with two values is a comparison alone.
+pub data Compares : Operation → Type 0 where
+  at_most : (a b : ℕ) → Compares (Operation.Of (Node.Le a b))
+  less : (a b : ℕ) → Compares (Operation.Of (Node.Lt a b))
 
--- This is asked first, and where it is a comparison alone, its answer is all.
-pub record IsFirst (w : Work) (a : Atom) : Type 0 where
-  pub first : along [] (asked_by_work w) 0 ≡ Evaluation.decide a
-  pub alone : Compares w → asked_by_work w ≡ ask a (done (outcomes.Result.truth true)) (done (outcomes.Result.truth false))
+-- The answer of a question.
+abbrev pub answer_of : Atom → Query outcomes.Result
+answer_of a = ask a (done (outcomes.Result.truth true)) (done (outcomes.Result.truth false))
 
--- What comes before all answers: nothing is asked, or this is asked first. Nothing is told where a number is too large, or may be.
-abbrev pub TellsAtOnce : Work → Result Came S.Stop → Type 0
-TellsAtOnce w (Ok c) = (asked_by_work w ≡ done (outcome_of c.outcome)) × IsKeptResult (outcome_of c.outcome)
-TellsAtOnce w (Err (S.TheVariants.Decide a)) = IsFirst w (atom_of a.value)
-TellsAtOnce w (Err S.TheVariants.Bits) = Unit {0}
-TellsAtOnce w (Err (S.TheVariants.Memory e)) = Unit {0}
+-- This is asked first of what is done with two parts, and where that is a comparison alone, its answer is all.
+pub record IsFirst (o : Operation) (p u : parts.Part) (a : Atom) : Type 0 where
+  pub first : along [] (asked_by_work (Work.two o p u)) 0 ≡ Evaluation.decide a
+  pub alone : Compares o → asked_by_work (Work.two o p u) ≡ answer_of a
+
+-- What comes before all answers of what is done with two parts: nothing is asked, or this is asked first. Nothing is told where a
+-- number is too large, or may be.
+abbrev pub TellsAtOnce : Operation → parts.Part → parts.Part → Result O.Outcome S.Stop → Type 0
+TellsAtOnce o p u (Ok x) = (asked_by_work (Work.two o p u) ≡ done (outcome_of x)) × IsKeptResult (outcome_of x)
+TellsAtOnce o p u (Err (S.TheVariants.Decide a)) = IsFirst o p u (atom_of a.value)
+TellsAtOnce o p u (Err S.TheVariants.Bits) = Unit {0}
+TellsAtOnce o p u (Err (S.TheVariants.Memory e)) = Unit {0}
+
+-- The same, with another part in place of the one that is evaluated last, or that chooses.
+abbrev pub with_operand : Work → parts.Part → Work
+with_operand (Work.known r) p = Work.known r
+with_operand Work.large p = Work.large
+with_operand (Work.asks a y n) p = Work.asks a y n
+with_operand (Work.two o f s) p = Work.two o f p
+with_operand (Work.choice g y n) p = Work.choice p y n
+
+-- What is evaluated before that part is known.
+abbrev pub IsKnownBefore : Work → Type 0
+IsKnownBefore (Work.known r) = ⊥
+IsKnownBefore Work.large = ⊥
+IsKnownBefore (Work.asks a y n) = ⊥
+IsKnownBefore (Work.two o f s) = (x : outcomes.Result) × (asked f ≡ done x)
+IsKnownBefore (Work.choice g y n) = Unit {0}
+
+-- The part u does what is done with the part p in that place.
+pub record IsOver (w : Work) (p u : parts.Part) : Type 0 where
+  pub before : IsKnownBefore w
+  pub asks : asked u ≡ asked_by_work (with_operand w p)
+  pub ready : IsReady u

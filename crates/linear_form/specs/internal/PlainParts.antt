@@ -18,9 +18,8 @@ outcome_of (O.TheVariants.Ends x y) = Result.ends (linear_of x.value, linear_of 
 -- What a part does whose parts are plain already.
 abbrev pub work_layer : Work-F Work Part → Work
 work_layer (Work-F.Known o) = Work.known (outcome_of o)
-work_layer (Work-F.Asks a) = Work.asks (atom_of a)
 work_layer Work-F.Large = Work.large
-work_layer (Work-F.One o p) = Work.one o p.value
+work_layer (Work-F.Asks a p u) = Work.asks (atom_of a.value) p.value u.value
 work_layer (Work-F.Two o p u) = Work.two o p.value u.value
 work_layer (Work-F.Choice g p u) = Work.choice g.value p.value u.value
 
