@@ -1,41 +1,34 @@
 //! How an evaluation of a goal begins, and how it goes on along a path.
 
-ghost use Rattle.std.specs.Prelude.{◌≡◌, [], IfOk};
+ghost use Rattle.std.specs.Prelude.{[], IfOk};
 ghost use Rattle.heylo_formula.specs.Goals.{goal_of};
 ghost use Rattle.linear_form.specs.AskAnswers.{Answers};
 ghost use Rattle.linear_form.specs.Paths.{IsPath, end_at};
 ghost use Rattle.linear_form.specs.Places.{IsOn};
 ghost use Rattle.linear_form.specs.PlainPaths.{path_of};
-ghost use Rattle.linear_form.specs.declared.questions.Ask.TheVariants.{Bits as BitsAsked};
 
 use crate::cursor::Stop;
-use crate::evaluations::{Evaluation, Focus};
-use crate::goal_parts::goal_part;
-use crate::parts::Outcome;
 use crate::paths::Taken;
-use crate::places::{Place, Reached, copy_place};
+use crate::places::{Evaluation, Focus, Place, Reached};
 use crate::questions::Ask;
+use crate::ready_parts::goal_part;
 use crate::steps::advance;
 use heylo_formula::Goal;
-use linear_values::lin::copy_value;
 use std::alloc::{AllocError, Global};
 
 /// The evaluation before the first question: the stated form, and then the found one. Want of memory is the one error.
 pub fn begin(alloc: Global, goal: &Goal) -> Result<Place, AllocError>
     ensures { IfOk result (λ p. IsOn (goal_of goal.now) [] p) }
 {
-    let whole = goal_part(alloc, goal)?;
-    let first = Evaluation {
-        focus: Focus::Part(whole),
-        frames: Vec::new(alloc),
-        at: 0,
-    };
-    let evaluation = Box::new(alloc, first)?;
+    let focus = Focus::Part(goal_part(alloc, goal)?);
+    let frames = Vec::new(alloc);
+    let at = 0;
+    let evaluation = Box::new(alloc, Evaluation { focus, frames, at })?;
     Ok(Place { evaluation })
 }
 
 /// What stands at the end of a path, evaluated on from a place on it. The place that is reached is the one where the next
-/// question stands, or the end; where numbers are too large it is the beginning. Want of memory is the one error.
+/// question stands, or the end, or where a number is too large. Want of memory is the one error.
 pub fn go_on(
     alloc: Global,
     goal: &Goal,
@@ -47,8 +40,8 @@ pub fn go_on(
     ensures asked { IfOk result (λ r. Answers r.ask (end_at (goal_of goal.now) (path_of path.now))) }
     ensures on { IfOk result (λ r. IsOn (goal_of goal.now) (path_of path.now) r.place) }
 {
-    let now = copy_place(place)?;
-    go_on_from(alloc, goal, now, path)
+    let evaluation = place.evaluation.clone()?;
+    go_on_from(alloc, goal, Place { evaluation }, path)
 }
 
 /// The same, where the evaluation isn't needed at the first place any more.
@@ -63,41 +56,16 @@ pub fn go_on_from(
     ensures asked { IfOk result (λ r. Answers r.ask (end_at (goal_of goal.now) (path_of path.now))) }
     ensures on { IfOk result (λ r. IsOn (goal_of goal.now) (path_of path.now) r.place) }
 {
-    let Place {
-        evaluation: mut now,
-    } = place;
+    let Place { mut evaluation } = place;
     'steps: loop {
-        match advance(alloc, &mut now, path) {
-            Ok(None) => {}
-            Ok(Some(outcome)) => {
-                let Outcome::Ends(x, y) = outcome else {
-                    return anew(alloc, goal);
-                };
-                let ask = Ask::End(copy_value(alloc, &x)?, copy_value(alloc, &y)?);
-                let place = Place { evaluation: now };
-                return Ok(Reached { ask, place });
-            }
-            Err(stop) => match stop {
-                Stop::Decide(atom) => {
-                    let ask = Ask::Decide(Box::into_inner(atom));
-                    let place = Place { evaluation: now };
-                    return Ok(Reached { ask, place });
-                }
-                Stop::Bits => return anew(alloc, goal),
-                Stop::Memory(e) => return Err(e),
-            },
-        }
+        let ask = match advance(alloc, &mut evaluation, path) {
+            Ok(None) => continue,
+            Ok(Some(ask)) => Box::into_inner(ask),
+            Err(Stop::Decide(atom)) => Ask::Decide(Box::into_inner(atom)),
+            Err(Stop::Bits) => Ask::Bits,
+            Err(Stop::Memory(e)) => return Err(e),
+        };
+        let place = Place { evaluation };
+        return Ok(Reached { ask, place });
     }
-}
-
-/// Where numbers are too large, the evaluation stands at the beginning again.
-fn anew(alloc: Global, goal: &Goal) -> Result<Reached, AllocError>
-    ensures same { IfOk result (λ r. r.ask ≡ BitsAsked) }
-    ensures on { IfOk result (λ r. IsOn (goal_of goal.now) [] r.place) }
-{
-    let place = begin(alloc, goal)?;
-    Ok(Reached {
-        ask: Ask::Bits,
-        place,
-    })
 }

@@ -1,6 +1,6 @@
 //! An evaluation along a path: where it stands, and why it stops.
 
-ghost use Rattle.std.specs.Prelude.{◌≡◌, ◌+◌, drop, true, false, IfOk};
+ghost use Rattle.std.specs.Prelude.{◌≡◌, ◌+◌, alloc_error, drop, true, false, IfOk};
 ghost use Rattle.linear_form.specs.Query.{Atom as PlainAtom};
 ghost use Rattle.linear_form.specs.Query.Query.{ask, done};
 ghost use Rattle.linear_form.specs.internal.Run.{along, turned, Evaluation};
@@ -10,7 +10,7 @@ ghost use Rattle.linear_form.specs.internal.EvaluationResults.{GivesTruth};
 use crate::known_truths::known_truth;
 use crate::paths::{Atom, Taken, copy_atom};
 use linear_values::Lin;
-use std::alloc::{AllocError, Global};
+use std::alloc::{AllocError, AllocFailed, Global};
 
 /// A linear value, or None for infinity, and the place where the path goes on.
 #[derive(Drop)]
@@ -46,10 +46,14 @@ impl From<AllocError> for Stop {
     }
 }
 
-fn boxed(alloc: Global, atom: Atom) -> Result<Box<Atom>, AllocError>
-    ensures { IfOk result (λ b. b.value ≡ atom) }
-{
-    Ok(Box::new(alloc, atom)?)
+impl<T: Drop> From<AllocFailed<T>> for Stop {
+    ghost use Rattle.linear_form.specs.declared.cursor.Stop.{Stop};
+
+    ghost from_gives = { λ _ r. r ≡ Stop.Memory alloc_error };
+
+    fn from(failed: AllocFailed<T>) -> Stop {
+        Stop::Memory(AllocError::from(failed))
+    }
 }
 
 /// The answer of the path to a question, or the question.
@@ -62,8 +66,8 @@ pub fn answered(alloc: Global, atom: &Atom, path: &[Taken], at: usize) -> Result
             next: at + 1,
         })
     } else {
-        let question = boxed(alloc, copy_atom(alloc, atom)?)?;
-        Err(Stop::Decide(question))
+        let question = copy_atom(alloc, atom)?;
+        Err(Stop::Decide(Box::new(alloc, question)?))
     }
 }
 

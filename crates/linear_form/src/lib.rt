@@ -4,10 +4,8 @@
 mod claim_laws;
 mod continuations;
 mod cursor;
-mod evaluations;
 mod further_questions;
 mod further_rows;
-mod goal_parts;
 mod goal_products;
 mod growing_rows;
 mod known_truths;
@@ -30,7 +28,6 @@ mod row_list_laws;
 mod signs;
 mod splits;
 mod steps;
-mod turns;
 
 pub use claim_laws::{paths_claim_truths, paths_rows_are_met};
 pub use continuations::{begin, go_on, go_on_from};

@@ -1,21 +1,21 @@
 //! What the parts of nodes do.
 
-ghost use Rattle.std.specs.Prelude.{◌≡◌, false, true, IfOk, List, map, Some};
+ghost use Rattle.std.specs.Prelude.{◌≡◌, false, true, IfOk, List, map, Some, ℕ};
 ghost use Rattle.std.specs.Rc.{rc_value};
 ghost use Rattle.heyvl_num.specs.ExtendedNumbers.{value_of};
-ghost use Rattle.heylo_formula.specs.Formula.{Cond};
 ghost use Rattle.heylo_graph.specs.Nodes.{IsNodeOf, tree_at};
 ghost use Rattle.heylo_graph.specs.Trees.{Tree};
 ghost use Rattle.heylo_graph.specs.declared.nodes.Node.{Node as NodeValue};
+ghost use Rattle.linear_form.specs.PlainPaths.{atom_of};
 ghost use Rattle.linear_form.specs.Questions.{number, sized};
-ghost use Rattle.linear_form.specs.internal.GoalParts.{AreParts, IsChoiceOf, IsOneOf, IsPartOf, IsTwoOf, IsWorkOf};
+ghost use Rattle.linear_form.specs.internal.GoalParts.{AreParts, IsPartOf, IsWorkOf};
 ghost use Rattle.linear_form.specs.internal.Outcomes.{Result as Outcomes, valued};
-ghost use Rattle.linear_form.specs.internal.Parts.{asked_by_work, IsReadyWork, Part as PlainPart, Work as PlainWork};
+ghost use Rattle.linear_form.specs.internal.Parts.{asked_by_work, IsReadyWork, known_part, Part as PlainPart, Work as PlainWork};
 ghost use Rattle.linear_form.specs.internal.PlainParts.{part_of, work_of};
 ghost use Rattle.linear_values.specs.PlainValues.{linear_of};
 
 use crate::operators::{nothing, unit};
-use crate::parts::{Operation, Outcome, Part, Work, of_value};
+use crate::parts::{Operation, Outcome, Part, Work};
 use crate::paths::Atom;
 use heylo_graph::{Node, NodeId};
 use heyvl_num::Ext;
@@ -32,85 +32,43 @@ pub(crate) fn work_of_node(
 ) -> Result<Work, AllocError>
     ensures { IfOk result (λ w. (ns : List NodeValue) (t : Tree) → AreParts ns (map rc_value parts.now) → IsNodeOf ns node.now t → IsWorkOf t w) }
 {
+    let first = part_at(alloc, parts, node.first())?;
+    let second = part_at(alloc, parts, node.second())?;
+    let third = part_at(alloc, parts, node.third())?;
     match node {
         Node::Const(v) => constant_work(alloc, v),
         Node::Var(x) => value_work(alloc, Some(variable(alloc, *x)?)),
-        Node::Sum(a, b) => two(alloc, Operation::Sum, parts, *a, *b),
-        Node::Diff(a, b) => two(alloc, Operation::Difference, parts, *a, *b),
-        Node::Cut(a, b) => two(alloc, Operation::Cut, parts, *a, *b),
-        Node::Scale(w, a) => one(alloc, Operation::Scale(*w), parts, *a),
-        Node::Product(a, b, _) => two(alloc, Operation::Product, parts, *a, *b),
-        Node::Min(a, b) => two(alloc, Operation::Min, parts, *a, *b),
-        Node::Max(a, b) => two(alloc, Operation::Max, parts, *a, *b),
-        Node::Imply(a, b) => two(alloc, Operation::Imply, parts, *a, *b),
-        Node::CoImply(a, b) => two(alloc, Operation::CoImply, parts, *a, *b),
-        Node::Validate(a) => one(alloc, Operation::Validate, parts, *a),
-        Node::CoValidate(a) => one(alloc, Operation::CoValidate, parts, *a),
-        Node::Embed(g) => {
-            let infinity = unsure(alloc, value_work(alloc, None)?)?;
-            choice(
-                alloc,
-                parts,
-                *g,
-                infinity,
-                unsure(alloc, value_work(alloc, nothing(alloc))?)?,
-            )
-        }
-        Node::Iverson(g) => {
-            let one = unsure(alloc, value_work(alloc, unit(alloc))?)?;
-            choice(
-                alloc,
-                parts,
-                *g,
-                one,
-                unsure(alloc, value_work(alloc, nothing(alloc))?)?,
-            )
-        }
-        Node::Select(g, a, b) => {
-            let yes = part_at(alloc, parts, *a)?;
-            choice(alloc, parts, *g, yes, part_at(alloc, parts, *b)?)
-        }
+        Node::Embed(_) => picked(alloc, first, None, nothing(alloc)),
+        Node::Iverson(_) => picked(alloc, first, unit(alloc), nothing(alloc)),
+        Node::Select(_, _, _) | Node::Ite(_, _, _) => Ok(Work::Choice(first, second, third)),
         Node::Bind(_, _, _, _, _) => Ok(Work::Large),
         Node::Truth(b) => Ok(Work::Known(Outcome::Truth(*b))),
-        Node::Flag(x) => Ok(Work::Asks(Atom::Truth(*x))),
-        Node::Not(g) => denied(alloc, parts, *g),
-        Node::And(g, h) => {
-            let yes = part_at(alloc, parts, *h)?;
-            choice(alloc, parts, *g, yes, truth(alloc, false)?)
+        Node::Flag(x) => question(alloc, Atom::Truth(*x)),
+        Node::Not(_) => denied(alloc, first),
+        Node::And(_, _) => Ok(Work::Choice(first, second, truth(alloc, false)?)),
+        Node::Or(_, _) => Ok(Work::Choice(first, truth(alloc, true)?, second)),
+        Node::Same(_, _) => {
+            let other = unsure(alloc, denied(alloc, Rc::clone(&second)?)?)?;
+            Ok(Work::Choice(first, second, other))
         }
-        Node::Or(g, h) => {
-            let yes = truth(alloc, true)?;
-            choice(alloc, parts, *g, yes, part_at(alloc, parts, *h)?)
+        Node::Scale(_, _) | Node::Validate(_) | Node::CoValidate(_) => {
+            let unread = unsure(alloc, value_work(alloc, nothing(alloc))?)?;
+            Ok(Work::Two(Operation::Of(*node), unread, first))
         }
-        Node::Same(g, h) => {
-            let yes = part_at(alloc, parts, *h)?;
-            choice(
-                alloc,
-                parts,
-                *g,
-                yes,
-                unsure(alloc, denied(alloc, parts, *h)?)?,
-            )
-        }
-        Node::Le(a, b) => two(alloc, Operation::AtMost, parts, *a, *b),
-        Node::Lt(a, b) => two(alloc, Operation::Less, parts, *a, *b),
-        Node::EqNum(a, b) => two(alloc, Operation::Equal, parts, *a, *b),
-        Node::Ite(g, h, k) => {
-            let yes = part_at(alloc, parts, *h)?;
-            choice(alloc, parts, *g, yes, part_at(alloc, parts, *k)?)
-        }
+        _ => Ok(Work::Two(Operation::Of(*node), first, second)),
     }
 }
 
-/// The part of the node with a number.
-fn part_at(
+/// The part of the node with the number. Where there is none, any part is as good.
+pub(crate) fn part_at(
     alloc: Global,
     parts: &[Rc<Part, Global>],
-    id: NodeId,
+    id: Option<NodeId>,
 ) -> Result<Rc<Part, Global>, AllocError>
-    ensures { IfOk result (λ p. (ns : List NodeValue) (t : Tree) → AreParts ns (map rc_value parts.now) → tree_at ns id ≡ Some t → IsPartOf t p.value) }
+    ensures { IfOk result (λ p. (ns : List NodeValue) (i : ℕ) (t : Tree) → AreParts ns (map rc_value parts.now) → id ≡ Some i → tree_at ns i ≡ Some t → IsPartOf t p.value) }
 {
-    match parts.get(id.index()) {
+    let index = id.map_or(0, NodeId::index);
+    match parts.get(index) {
         Some(part) => Ok(Rc::clone(part)?),
         None => unsure(alloc, Work::Large),
     }
@@ -123,56 +81,39 @@ pub(crate) fn unsure(alloc: Global, work: Work) -> Result<Rc<Part, Global>, Allo
     Ok(Rc::new(alloc, Part { work, asks: false })?)
 }
 
-/// The operator over the parts of two nodes.
-pub(crate) fn two(
+/// One of two values, by the truth of a part.
+fn picked(
     alloc: Global,
-    operator: Operation,
-    parts: &[Rc<Part, Global>],
-    a: NodeId,
-    b: NodeId,
+    test: Rc<Part, Global>,
+    yes: Option<Lin>,
+    no: Option<Lin>,
 ) -> Result<Work, AllocError>
-    ensures { IfOk result (λ w. (ns : List NodeValue) (t u : Tree) → AreParts ns (map rc_value parts.now) → tree_at ns a ≡ Some t → tree_at ns b ≡ Some u → IsTwoOf operator t u w) }
+    ensures { IfOk result (λ w. work_of w ≡ PlainWork.choice (part_of test.value) (known_part (Outcomes.number (linear_of yes))) (known_part (Outcomes.number (linear_of no)))) }
 {
-    let first = part_at(alloc, parts, a)?;
-    Ok(Work::Two(operator, first, part_at(alloc, parts, b)?))
+    let one = unsure(alloc, value_work(alloc, yes)?)?;
+    let other = unsure(alloc, value_work(alloc, no)?)?;
+    Ok(Work::Choice(test, one, other))
 }
 
-/// The operator over the part of a node.
-fn one(
-    alloc: Global,
-    operator: Operation,
-    parts: &[Rc<Part, Global>],
-    a: NodeId,
-) -> Result<Work, AllocError>
-    ensures { IfOk result (λ w. (ns : List NodeValue) (t : Tree) → AreParts ns (map rc_value parts.now) → tree_at ns a ≡ Some t → IsOneOf operator t w) }
+/// The other truth than that of the part.
+fn denied(alloc: Global, test: Rc<Part, Global>) -> Result<Work, AllocError>
+    ensures { IfOk result (λ w. work_of w ≡ PlainWork.choice (part_of test.value) (known_part (Outcomes.truth false)) (known_part (Outcomes.truth true))) }
 {
-    Ok(Work::One(operator, part_at(alloc, parts, a)?))
+    let no = truth(alloc, false)?;
+    Ok(Work::Choice(test, no, truth(alloc, true)?))
 }
 
-/// One of two parts, by the truth of the part of a node.
-fn choice(
-    alloc: Global,
-    parts: &[Rc<Part, Global>],
-    test: NodeId,
-    yes: Rc<Part, Global>,
-    no: Rc<Part, Global>,
-) -> Result<Work, AllocError>
-    ensures { IfOk result (λ w. (ns : List NodeValue) (t : Tree) → AreParts ns (map rc_value parts.now) → tree_at ns test ≡ Some t → IsChoiceOf t (part_of yes.value) (part_of no.value) w) }
+/// The answer of a question.
+pub(crate) fn question(alloc: Global, atom: Atom) -> Result<Work, AllocError>
+    ensures { IfOk result (λ w. work_of w ≡ PlainWork.asks (atom_of atom) (known_part (Outcomes.truth true)) (known_part (Outcomes.truth false))) }
 {
-    Ok(Work::Choice(part_at(alloc, parts, test)?, yes, no))
-}
-
-/// The other truth than that of the part of a node.
-fn denied(alloc: Global, parts: &[Rc<Part, Global>], test: NodeId) -> Result<Work, AllocError>
-    ensures { IfOk result (λ w. (ns : List NodeValue) (g : Cond) → AreParts ns (map rc_value parts.now) → tree_at ns test ≡ Some (Tree.condition g) → IsWorkOf (Tree.condition (Cond.not g)) w) }
-{
-    let yes = truth(alloc, false)?;
-    choice(alloc, parts, test, yes, truth(alloc, true)?)
+    let yes = truth(alloc, true)?;
+    Ok(Work::Asks(Rc::new(alloc, atom)?, yes, truth(alloc, false)?))
 }
 
 /// A truth that is known.
 fn truth(alloc: Global, holds: bool) -> Result<Rc<Part, Global>, AllocError>
-    ensures { IfOk result (λ p. part_of p.value ≡ PlainPart.part (PlainWork.known (Outcomes.truth holds)) false) }
+    ensures { IfOk result (λ p. part_of p.value ≡ known_part (Outcomes.truth holds)) }
 {
     unsure(alloc, Work::Known(Outcome::Truth(holds)))
 }
@@ -181,7 +122,7 @@ fn truth(alloc: Global, holds: bool) -> Result<Rc<Part, Global>, AllocError>
 fn value_work(alloc: Global, value: Option<Lin>) -> Result<Work, AllocError>
     ensures { IfOk result (λ w. work_of w ≡ PlainWork.known (Outcomes.number (linear_of value))) }
 {
-    Ok(Work::Known(of_value(alloc, value)?))
+    Ok(Work::Known(Outcome::Number(Rc::new(alloc, value)?)))
 }
 
 /// A constant.

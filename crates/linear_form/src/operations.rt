@@ -1,4 +1,4 @@
-//! The operators of parts, run over what these come to.
+//! What is done with the values of two parts.
 
 ghost use Rattle.std.specs.Prelude.{Bool, List, ℕ};
 ghost use Rattle.linear_form.specs.Query.{Query, Taken as PlainTaken};
@@ -16,8 +16,9 @@ use crate::operators::{
     at_most, co_imply, co_validate, cut, difference, equal, imply, less, max, min, product, scale,
     sum, validate,
 };
-use crate::parts::{Operation, Outcome, of_value};
+use crate::parts::{Operation, Outcome};
 use crate::paths::Taken;
+use heylo_graph::Node;
 use std::alloc::Global;
 use std::rc::Rc;
 
@@ -29,35 +30,27 @@ pub(crate) struct Came {
 }
 
 /// A value that is found.
-pub(crate) fn number_came(alloc: Global, found: Result<Found, Stop>) -> Result<Came, Stop>
+fn number_came(alloc: Global, found: Result<Found, Stop>) -> Result<Came, Stop>
     ensures { (ps : List PlainTaken) (q : Query Linear) (i : ℕ) → Gives found (along ps q i) → Comes result (along ps (valued q) i) }
 {
-    match found {
-        Ok(found) => Ok(Came {
-            outcome: of_value(alloc, found.value)?,
-            next: found.next,
-        }),
-        Err(stop) => Err(stop),
-    }
+    let Found { value, next } = found?;
+    let outcome = Outcome::Number(Rc::new(alloc, value)?);
+    Ok(Came { outcome, next })
 }
 
 /// A truth that is found.
-pub(crate) fn truth_came(tested: Result<Tested, Stop>) -> Result<Came, Stop>
+fn truth_came(tested: Result<Tested, Stop>) -> Result<Came, Stop>
     ensures { (ps : List PlainTaken) (q : Query Bool) (i : ℕ) → GivesTruth tested (along ps q i) → Comes result (along ps (told q) i) }
 {
-    match tested {
-        Ok(tested) => Ok(Came {
-            outcome: Outcome::Truth(tested.holds),
-            next: tested.next,
-        }),
-        Err(stop) => Err(stop),
-    }
+    let Tested { holds, next } = tested?;
+    let outcome = Outcome::Truth(holds);
+    Ok(Came { outcome, next })
 }
 
-/// What an operator gives over what parts come to. One with one part looks at the first outcome alone.
+/// What is done with what two parts come to.
 pub(crate) fn operated(
     alloc: Global,
-    operator: &Operation,
+    operation: &Operation,
     first: &Outcome,
     second: &Outcome,
     path: &[Taken],
@@ -65,7 +58,7 @@ pub(crate) fn operated(
 ) -> Result<Came, Stop>
     requires first { IsKeptResult (outcome_of first.now) }
     requires second { IsKeptResult (outcome_of second.now) }
-    ensures { Comes result (along (path_of path.now) (operated operator.now (outcome_of first.now) (outcome_of second.now)) at) }
+    ensures { Comes result (along (path_of path.now) (operated operation.now (outcome_of first.now) (outcome_of second.now)) at) }
 {
     let Outcome::Number(x) = first else {
         return Err(Stop::Bits);
@@ -73,24 +66,25 @@ pub(crate) fn operated(
     let Outcome::Number(y) = second else {
         return Err(Stop::Bits);
     };
-    match operator {
-        Operation::Sum => number_came(alloc, sum(alloc, x, y, path, at)),
-        Operation::Difference => number_came(alloc, difference(alloc, x, y, path, at)),
-        Operation::Cut => number_came(alloc, cut(alloc, x, y, path, at)),
-        Operation::Product => number_came(alloc, product(alloc, x, y, path, at)),
-        Operation::Min => number_came(alloc, min(alloc, x, y, path, at)),
-        Operation::Max => number_came(alloc, max(alloc, x, y, path, at)),
-        Operation::Imply => number_came(alloc, imply(alloc, x, y, path, at)),
-        Operation::CoImply => number_came(alloc, co_imply(alloc, x, y, path, at)),
-        Operation::Validate => number_came(alloc, Ok(validate(alloc, x, at))),
-        Operation::CoValidate => number_came(alloc, co_validate(alloc, x, path, at)),
-        Operation::AtMost => truth_came(at_most(alloc, x, y, path, at)),
-        Operation::Less => truth_came(less(alloc, x, y, path, at)),
-        Operation::Equal => truth_came(equal(alloc, x, y, path, at)),
-        Operation::Scale(w) => number_came(alloc, scale(alloc, w, x, at)),
-        Operation::Ends => Ok(Came {
-            outcome: Outcome::Ends(Rc::clone(x)?, Rc::clone(y)?),
-            next: at,
-        }),
+    let Operation::Of(node) = operation else {
+        let outcome = Outcome::Ends(Rc::clone(x)?, Rc::clone(y)?);
+        return Ok(Came { outcome, next: at });
+    };
+    match node {
+        Node::Sum(_, _) => number_came(alloc, sum(alloc, x, y, path, at)),
+        Node::Diff(_, _) => number_came(alloc, difference(alloc, x, y, path, at)),
+        Node::Cut(_, _) => number_came(alloc, cut(alloc, x, y, path, at)),
+        Node::Scale(w, _) => number_came(alloc, scale(alloc, w, y, at)),
+        Node::Product(_, _, _) => number_came(alloc, product(alloc, x, y, path, at)),
+        Node::Min(_, _) => number_came(alloc, min(alloc, x, y, path, at)),
+        Node::Max(_, _) => number_came(alloc, max(alloc, x, y, path, at)),
+        Node::Imply(_, _) => number_came(alloc, imply(alloc, x, y, path, at)),
+        Node::CoImply(_, _) => number_came(alloc, co_imply(alloc, x, y, path, at)),
+        Node::Validate(_) => number_came(alloc, Ok(validate(alloc, y, at))),
+        Node::CoValidate(_) => number_came(alloc, co_validate(alloc, y, path, at)),
+        Node::Le(_, _) => truth_came(at_most(alloc, x, y, path, at)),
+        Node::Lt(_, _) => truth_came(less(alloc, x, y, path, at)),
+        Node::EqNum(_, _) => truth_came(equal(alloc, x, y, path, at)),
+        _ => Err(Stop::Bits),
     }
 }

@@ -1,33 +1,16 @@
 //! The parts of a goal, ready to be evaluated: what each does with what its own parts come to. Equal parts stand once.
 
-ghost use Rattle.std.specs.Prelude.{◌≡◌, IfOk};
-ghost use Rattle.linear_form.specs.internal.Outcomes.{Result as Outcomes};
-ghost use Rattle.linear_form.specs.internal.PlainParts.{outcome_of};
-ghost use Rattle.linear_values.specs.PlainValues.{linear_of};
-
 use crate::paths::Atom;
-use heyvl_num::Frac;
+use heylo_graph::Node;
 use linear_values::Lin;
-use std::alloc::{AllocError, Global};
+use std::alloc::Global;
 use std::rc::Rc;
 
-/// An operator on one value, or on two.
+/// What is done with the values of two parts.
 #[derive(Clone, Copy)]
 pub(crate) enum Operation {
-    Sum,
-    Difference,
-    Cut,
-    Product,
-    Min,
-    Max,
-    Imply,
-    CoImply,
-    Validate,
-    CoValidate,
-    AtMost,
-    Less,
-    Equal,
-    Scale(Frac),
+    /// The operator of a node. One with one operand looks at the second value alone.
+    Of(Node),
     /// Both, as the values of the two forms of a goal.
     Ends,
 }
@@ -56,21 +39,12 @@ pub(crate) struct Part {
 pub(crate) enum Work {
     /// Nothing is asked: it comes to this.
     Known(Outcome),
-    /// It comes to the answer of this question.
-    Asks(Atom),
     /// A number is too large. So is a binder, which no goal has.
     Large,
-    /// The operator, over the value of a part.
-    One(Operation, Rc<Part, Global>),
-    /// The operator, over the values of two parts.
+    /// The first part where the answer is yes, else the second.
+    Asks(Rc<Atom, Global>, Rc<Part, Global>, Rc<Part, Global>),
+    /// What is done with the values of two parts.
     Two(Operation, Rc<Part, Global>, Rc<Part, Global>),
     /// The second part where the first one is true, else the third.
     Choice(Rc<Part, Global>, Rc<Part, Global>, Rc<Part, Global>),
-}
-
-/// A value as an outcome. Want of memory is the one error.
-pub(crate) fn of_value(alloc: Global, value: Option<Lin>) -> Result<Outcome, AllocError>
-    ensures { IfOk result (λ o. outcome_of o ≡ Outcomes.number (linear_of value)) }
-{
-    Ok(Outcome::Number(Rc::new(alloc, value)?))
 }

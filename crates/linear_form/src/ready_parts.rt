@@ -1,99 +1,157 @@
-//! Parts that are ready: what they come to before all answers is noted, and whether they surely ask a comparison.
+//! The parts of a goal, made ready: what they come to before all answers is noted, and whether they surely ask a comparison.
 
-ghost use Rattle.std.specs.Prelude.{◌≡◌, IfOk, IfSome, IsTrue};
+ghost use Rattle.std.specs.Prelude.{◌≡◌, IfOk, IfSome, IsTrue, map};
+ghost use Rattle.std.specs.Rc.{rc_value};
+ghost use Rattle.heylo_formula.specs.Goals.{goal_of};
 ghost use Rattle.linear_form.specs.PlainPaths.{atom_of};
-ghost use Rattle.linear_form.specs.internal.GoalParts.{Compares, IsFirst, IsReadyAs, TellsAtOnce};
+ghost use Rattle.linear_form.specs.internal.GoalParts.{AreParts, Compares, IsGoalPart, IsOver, IsReadyAs, TellsAtOnce};
 ghost use Rattle.linear_form.specs.internal.LastingTrees.{IsComparison, Lasts};
-ghost use Rattle.linear_form.specs.internal.Parts.{asked_by_work, IsReadyWork, Work as PlainWork};
-ghost use Rattle.linear_form.specs.internal.PlainParts.{outcome_of, work_of};
+ghost use Rattle.linear_form.specs.internal.Parts.{asked_by_work, IsReady, IsReadyWork};
+ghost use Rattle.linear_form.specs.internal.PlainParts.{outcome_of, part_of, work_of};
 
 use crate::cursor::Stop;
-use crate::node_work::unsure;
+use crate::node_work::{part_at, question, unsure, work_of_node};
 use crate::operations::{Came, operated};
 use crate::parts::{Operation, Outcome, Part, Work};
 use crate::paths::Atom;
+use heylo_formula::Goal;
+use heylo_graph::{Graph, Node, NodeId};
 use std::alloc::{AllocError, Global};
 use std::rc::Rc;
 
+/// How many terms the values of a goal's parts have together at most: each first part of a sum of n variables has its terms again.
+const MOST_TERMS: usize = 262_144;
+
+/// The goal as a part, which comes to the values of both forms. Want of memory is the one error.
+pub(crate) fn goal_part(alloc: Global, goal: &Goal) -> Result<Rc<Part, Global>, AllocError>
+    ensures { IfOk result (λ p. IsGoalPart (goal_of goal.now) p.value) }
+{
+    let mut graph = Graph::new(alloc);
+    let stated = graph.put(&goal.stated)?;
+    let found = graph.put(&goal.found)?;
+    let parts = parts_of(alloc, &graph)?;
+    let first = part_at(alloc, &parts, Some(stated))?;
+    let second = part_at(alloc, &parts, Some(found))?;
+    unsure(alloc, Work::Two(Operation::Ends, first, second))
+}
+
+/// The parts of the nodes, by their numbers.
+fn parts_of(alloc: Global, graph: &Graph) -> Result<Vec<Rc<Part, Global>>, AllocError>
+    ensures { IfOk result (λ parts. AreParts graph.now (map rc_value parts.items)) }
+{
+    let mut parts = Vec::with_capacity(alloc, graph.len())?;
+    let mut room = MOST_TERMS;
+    for i in 0..graph.len() {
+        let work = work_of_node(alloc, graph.node(NodeId::new(i)), &parts)?;
+        let part = ready_part(alloc, work, &mut room)?;
+        parts.push(Rc::new(alloc, part)?)?;
+    }
+    Ok(parts)
+}
+
 /// The part that does this, over parts that are ready. Where it comes to something before all answers, this is noted, as far as there is
 /// room for the terms of the value. Want of memory is the one error.
-pub(crate) fn ready_part(alloc: Global, work: Work, room: &mut usize) -> Result<Part, AllocError>
+fn ready_part(alloc: Global, work: Work, room: &mut usize) -> Result<Part, AllocError>
     requires { IsReadyWork (work_of work) }
     ensures { IfOk result (IsReadyAs (work_of work)) }
 {
-    let work = with_choice(alloc, work)?;
-    match at_once(alloc, &work) {
-        Ok(came) => if has_room(room, &came.outcome) {
-            let work = Work::Known(came.outcome);
+    let work = with_question(alloc, work, room)?;
+    let Work::Two(operation, first, second) = &work else {
+        let asks = surely_asks(&work);
+        return Ok(Part { work, asks });
+    };
+    match both(alloc, operation, first, second, room) {
+        Ok(outcome) => {
+            let work = Work::Known(outcome);
             Ok(Part { work, asks: false })
-        } else {
-            Ok(Part { work, asks: false })
-        },
-        Err(stop) => match stop {
-            Stop::Decide(atom) => Ok(asking(work, Box::into_inner(atom))),
-            Stop::Bits => {
-                let asks = surely_asks(&work);
+        }
+        Err(Stop::Decide(atom)) => {
+            let asks = is_comparison(&atom);
+            if compares(operation) {
+                let work = question(alloc, Box::into_inner(atom))?;
+                Ok(Part { work, asks })
+            } else {
                 Ok(Part { work, asks })
             }
-            Stop::Memory(e) => Err(e),
-        },
+        }
+        Err(Stop::Bits) => {
+            let asks = surely_asks(&work);
+            Ok(Part { work, asks })
+        }
+        Err(Stop::Memory(e)) => Err(e),
     }
 }
 
-/// The same, where an operator over a choice of known parts is a choice of what it gives over these.
-fn with_choice(alloc: Global, work: Work) -> Result<Work, AllocError>
+/// The same, where a part of it asks a question, and what follows is known behind each answer: then it is this question.
+fn with_question(alloc: Global, work: Work, room: &mut usize) -> Result<Work, AllocError>
     requires { IsReadyWork (work_of work) }
     ensures { IfOk result (λ w. (asked_by_work (work_of w) ≡ asked_by_work (work_of work)) × IsReadyWork (work_of w)) }
 {
-    let Work::One(operator, first) = &work else {
+    let asking = match &work {
+        Work::Two(_, _, second) => second,
+        Work::Choice(test, _, _) => test,
+        _ => return Ok(work),
+    };
+    let Work::Asks(atom, yes, no) = &asking.work else {
         return Ok(work);
     };
-    let Work::Choice(test, yes, no) = &first.work else {
+    let Some(one) = over(alloc, &work, yes, room)? else {
         return Ok(work);
     };
-    let Ok(one) = at_once(alloc, &Work::One(*operator, Rc::clone(yes)?)) else {
+    let Some(other) = over(alloc, &work, no, room)? else {
         return Ok(work);
     };
-    let Ok(other) = at_once(alloc, &Work::One(*operator, Rc::clone(no)?)) else {
-        return Ok(work);
-    };
-    let first = unsure(alloc, Work::Known(one.outcome))?;
-    let second = unsure(alloc, Work::Known(other.outcome))?;
-    Ok(Work::Choice(Rc::clone(test)?, first, second))
+    Ok(Work::Asks(Rc::clone(atom)?, one, other))
 }
 
-/// What an operator gives before all answers, over parts that are known.
-fn at_once(alloc: Global, work: &Work) -> Result<Came, Stop>
-    requires { IsReadyWork (work_of work.now) }
-    ensures { TellsAtOnce (work_of work.now) result }
+/// What follows, over a known part in place of the one that asks.
+fn over(
+    alloc: Global,
+    work: &Work,
+    part: &Part,
+    room: &mut usize,
+) -> Result<Option<Rc<Part, Global>>, AllocError>
+    requires work { IsReadyWork (work_of work.now) }
+    requires part { IsReady (part_of part.now) }
+    ensures { IfOk result (λ o. IfSome o (λ p. IsOver (work_of work.now) (part_of part.now) (part_of p.value))) }
 {
     match work {
-        Work::One(operator, first) => {
-            let Some(x) = outcome_known(&first.work) else {
-                return Err(Stop::Bits);
-            };
-            operated(alloc, operator, x, x, &[], 0)
-        }
-        Work::Two(operator, first, second) => {
-            let Some(x) = outcome_known(&first.work) else {
-                return Err(Stop::Bits);
-            };
-            let Some(y) = outcome_known(&second.work) else {
-                return Err(Stop::Bits);
-            };
-            operated(alloc, operator, x, y, &[], 0)
-        }
-        _ => Err(Stop::Bits),
+        Work::Two(operation, first, _) => match both(alloc, operation, first, part, room) {
+            Ok(outcome) => Ok(Some(unsure(alloc, Work::Known(outcome))?)),
+            Err(_) => Ok(None),
+        },
+        Work::Choice(_, yes, no) => match &part.work {
+            Work::Known(Outcome::Truth(holds)) => {
+                Ok(Some(Rc::clone(if *holds { yes } else { no })?))
+            }
+            _ => Ok(None),
+        },
+        _ => Ok(None),
     }
 }
 
-/// What a part comes to, where it is known.
-fn outcome_known(work: &Work) -> Option<&Outcome>
-    ensures { IfSome result (λ o. work_of work.now ≡ PlainWork.known (outcome_of o.now)) }
+/// What comes before all answers of what is done with two parts, where these are known, and where there is room for it.
+fn both(
+    alloc: Global,
+    operation: &Operation,
+    first: &Part,
+    second: &Part,
+    room: &mut usize,
+) -> Result<Outcome, Stop>
+    requires first { IsReady (part_of first.now) }
+    requires second { IsReady (part_of second.now) }
+    ensures { TellsAtOnce operation.now (part_of first.now) (part_of second.now) result }
 {
-    match work {
-        Work::Known(outcome) => Some(outcome),
-        _ => None,
+    match (&first.work, &second.work) {
+        (Work::Known(x), Work::Known(y)) => {
+            let Came { outcome, .. } = operated(alloc, operation, x, y, &[], 0)?;
+            if has_room(room, &outcome) {
+                Ok(outcome)
+            } else {
+                Err(Stop::Bits)
+            }
+        }
+        _ => Err(Stop::Bits),
     }
 }
 
@@ -103,49 +161,25 @@ fn has_room(room: &mut usize, outcome: &Outcome) -> bool {
         return true;
     };
     let terms = value.as_ref().as_ref().map_or(0, |a| a.terms.len());
-    match room.checked_sub(terms) {
-        None => false,
-        Some(left) => {
-            *room = left;
-            true
-        }
-    }
-}
-
-/// The part whose first question, before all answers, is this one. Where its answer is all that is done, it is that question.
-fn asking(work: Work, atom: Atom) -> Part
-    ensures { IsReadyWork (work_of work) → IsFirst (work_of work) (atom_of atom) → IsReadyAs (work_of work) result }
-{
-    let asks = is_comparison(&atom);
-    if compares(&work) {
-        let work = Work::Asks(atom);
-        Part { work, asks }
-    } else {
-        Part { work, asks }
-    }
+    let fits = terms <= *room;
+    *room = room.saturating_sub(terms);
+    fits
 }
 
 /// Whether a question is a comparison.
-fn is_comparison(atom: &Atom) -> bool
+pub(crate) fn is_comparison(atom: &Atom) -> bool
     ensures { IsTrue result → IsComparison (atom_of atom.now) }
 {
-    match atom {
-        Atom::Row(_, _) => true,
-        Atom::Truth(_) => false,
-    }
+    matches!(atom, Atom::Row(_, _))
 }
 
-/// Whether what is done is a comparison alone.
-fn compares(work: &Work) -> bool
-    ensures { IsTrue result → Compares (work_of work.now) }
+/// Whether what is done with two values is a comparison alone.
+fn compares(operation: &Operation) -> bool
+    ensures { IsTrue result → Compares operation.now }
 {
-    match work {
-        Work::Two(operator, _, _) => match operator {
-            Operation::AtMost => true,
-            Operation::Less => true,
-            _ => false,
-        },
-        _ => false,
+    match operation {
+        Operation::Of(node) => matches!(node, Node::Le(_, _) | Node::Lt(_, _)),
+        Operation::Ends => false,
     }
 }
 
@@ -154,7 +188,7 @@ fn surely_asks(work: &Work) -> bool
     ensures { IsReadyWork (work_of work.now) → IsTrue result → Lasts 1 (asked_by_work (work_of work.now)) }
 {
     match work {
-        Work::One(_, first) => first.asks,
+        Work::Asks(atom, yes, no) => is_comparison(atom) || (yes.asks && no.asks),
         Work::Two(_, first, second) => first.asks || second.asks,
         Work::Choice(test, yes, no) => test.asks || (yes.asks && no.asks),
         _ => false,
