@@ -21,7 +21,7 @@ pub of_values : (q r : Query Linear) (f : Linear → Linear → Query Result) �
 of_values q r f = next_assoc q _ _ ∙ next_cong q _ _ (λ x. next_assoc r _ _)
 
 -- a form or a condition with one part or two
-pub one_valued : (q : Query Linear) (f : Linear → Query Linear) → valued (next q f) ≡ next (valued q) (λ r. of_number (λ x. of_number (λ y. valued (f x)) r) r)
+pub one_valued : (q : Query Linear) (f : Linear → Query Linear) → valued (next q f) ≡ next (valued q) (of_number (λ x. valued (f x)))
 one_valued q f = next_assoc q f _ ∙ sym (next_assoc q _ _)
 
 pub two_valued : (q r : Query Linear) (f : Linear → Linear → Query Linear) → valued (both q r f) ≡ next (valued q) (λ x. next (valued r) (λ y. of_number (λ a. of_number (λ b. valued (f a b)) y) x))

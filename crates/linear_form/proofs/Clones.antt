@@ -8,14 +8,14 @@ use Rattle.linear_form.specs.internal.Evaluations.{asked_by, resumed, framed, en
 use Rattle.linear_form.specs.internal.Outcomes.{Result, IsKeptResult}
 use Rattle.linear_form.specs.internal.Parts.{after_first, after_second, asked, IsReady, IsReadyWork}
 use Rattle.linear_form.specs.internal.PlainParts.{outcome_of, part_of, work_of}
-use Rattle.linear_form.specs.declared.evaluations.Evaluation as V
-use Rattle.linear_form.specs.declared.evaluations.Focus as F
-use Rattle.linear_form.specs.declared.evaluations.Frame as W
+use Rattle.linear_form.specs.declared.places.Evaluation as V
+use Rattle.linear_form.specs.declared.places.Focus as F
+use Rattle.linear_form.specs.declared.places.Frame as W
 use Rattle.linear_form.specs.declared.parts.Outcome as O
 use Rattle.linear_form.specs.declared.parts.Part.{Part}
-use Rattle.linear_form.specs.contracts.evaluations.EvaluationClone.TheImpl as evaluation
-use Rattle.linear_form.specs.contracts.evaluations.FocusClone.TheImpl as focus
-use Rattle.linear_form.specs.contracts.evaluations.FrameClone.TheImpl as frame
+use Rattle.linear_form.specs.contracts.places.EvaluationClone.TheImpl as evaluation
+use Rattle.linear_form.specs.contracts.places.FocusClone.TheImpl as focus
+use Rattle.linear_form.specs.contracts.places.FrameClone.TheImpl as frame
 use Rattle.linear_form.specs.contracts.parts.OutcomeClone.TheImpl as outcome
 
 pub same_outcome : (o c : O.Outcome) → outcome.by_variants o c → outcome_of c ≡ outcome_of o

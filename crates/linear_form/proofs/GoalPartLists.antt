@@ -1,6 +1,6 @@
 -- The parts of a goal's graph, node by node.
 use Prim.Native.Nat.{zero, suc}
-use Rattle.std.proofs.Common.{◌≡◌, ℕ, ◌+◌, ◌<◌, ◌≤◌, ◌⊎◌, inl, inr, false, List, [], ◌∷◌, ◌++◌, map, Some, length, slice_get, refl, sym, ap, subst, ◌∙◌, arith, length-append, add-one, Global}
+use Rattle.std.proofs.Common.{◌≡◌, ℕ, ◌+◌, ◌<◌, ◌≤◌, ◌⊎◌, inl, inr, false, List, [], ◌∷◌, ◌++◌, map, Some, length, slice_get, refl, sym, ap, ap₂, subst, ◌∙◌, arith, length-append, add-one, Global}
 use Rattle.std.specs.Prelude.{take, drop}
 use Rattle.std.specs.Rc.{rc_value}
 use Rattle.std.specs.declared.rc.Rc.{Rc}
@@ -16,8 +16,8 @@ use Rattle.heylo_graph.proofs.exported.LongerLists.{tree_within, tree_kept, tree
 use Rattle.linear_form.specs.Query.{next}
 use Rattle.linear_form.specs.Questions.{evaluate}
 use Rattle.linear_form.specs.internal.Evaluations.{ended}
-use Rattle.linear_form.specs.internal.GoalParts.{AreParts, HasPart, IsPartOf, IsWorkOf, IsTwoOf, IsGoalPart, IsReadyAs}
-use Rattle.linear_form.specs.internal.Parts.{asked}
+use Rattle.linear_form.specs.internal.GoalParts.{AreParts, HasPart, IsPartOf, IsWorkOf, IsGoalPart, IsReadyAs}
+use Rattle.linear_form.specs.internal.Parts.{asked, asked_by_work, operated, IsReadyWork}
 use Rattle.linear_form.specs.internal.Parts as parts
 use Rattle.linear_form.specs.internal.PlainParts.{part_of, work_of}
 use Rattle.linear_form.specs.declared.parts.Operation.{Operation}
@@ -37,7 +37,7 @@ get_last : {X : Type 0} (xs : List X) (x : X) → slice_get (xs ++ x ∷ []) (le
 get_last [] x = refl
 get_last (y ∷ xs) x = get_last xs x
 
-take_one_more : {X : Type 0} (xs : List X) (i : ℕ) (x : X) → slice_get xs i ≡ Some x → take (suc i) xs ≡ take i xs ++ x ∷ []
+pub take_one_more : {X : Type 0} (xs : List X) (i : ℕ) (x : X) → slice_get xs i ≡ Some x → take (suc i) xs ≡ take i xs ++ x ∷ []
 take_one_more xs i x h = take-suc xs i x (slice_get_within xs i x h) ∙ ap (λ y. take i xs ++ y ∷ []) (get_or_from_slice_get xs i x x h)
 
 -- ---- Nodes, over those before them
@@ -95,5 +95,5 @@ parts_grow ns i n ps new r w l f o h k a = subst (λ ms. AreParts ms (map rc_val
 
 -- ---- Both forms of a goal
 
-pub goal_is : (g : Goal) (p : Part) (w : Work) → part_of p ≡ parts.Part.part (work_of w) false → IsTwoOf Operation.Ends (Tree.formula g.stated) (Tree.formula g.found) w → IsGoalPart g p
-goal_is g p w e h = record { asks = ap (λ m. next m ended) (ap asked e ∙ h.asks) ∙ all_asked (evaluate g.stated) (evaluate g.found); ready = ready_unsure (part_of p) (work_of w) e h.ready }
+pub goal_is : (g : Goal) (p a b : Part) (w : Work) → part_of p ≡ parts.Part.part (work_of w) false → work_of w ≡ parts.Work.two Operation.Ends (part_of a) (part_of b) → IsPartOf (Tree.formula g.stated) a → IsPartOf (Tree.formula g.found) b → IsGoalPart g p
+goal_is g p a b w e f h k = record { asks = ap (λ m. next m ended) (ap asked e ∙ ap asked_by_work f ∙ ap₂ (λ m q. next m (λ x. next q (λ y. operated Operation.Ends x y))) h.asks k.asks) ∙ all_asked (evaluate g.stated) (evaluate g.found); ready = ready_unsure (part_of p) (work_of w) e (subst IsReadyWork (sym f) (h.ready, k.ready)) }

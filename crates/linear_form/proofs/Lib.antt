@@ -43,7 +43,6 @@ mod SureQuestions
 mod KeptOperations
 mod EvaluationRuns
 mod Clones
-mod PartTurns
 mod PlainPartsAre
 mod OperatedOutcomes
 mod PartsThatWait
@@ -51,4 +50,3 @@ mod ReadyParts
 mod FramesThatAsk
 mod NodeWorks
 mod GoalPartLists
-mod ChosenValues

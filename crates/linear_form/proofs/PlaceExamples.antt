@@ -6,15 +6,14 @@ use Rattle.heylo_formula.specs.Goals.{Goal}
 use Rattle.linear_form.specs.Paths.{end_at}
 use Rattle.linear_form.specs.Standings.{Standing}
 use Rattle.linear_form.specs.Places.{IsOn}
-use Rattle.linear_form.specs.Query.{Atom, Taken}
+use Rattle.linear_form.specs.Query.{Atom, Taken, next}
 use Rattle.linear_form.specs.Query.Query.{done, ask}
 use Rattle.linear_form.specs.Questions.{zero, one, all_questions}
 use Rattle.linear_form.specs.internal.Evaluations.{ended}
 use Rattle.linear_form.specs.internal.Outcomes.{Result}
-use Rattle.linear_form.specs.internal.Parts.{Part, Work, asked}
+use Rattle.linear_form.specs.internal.Parts.{Part, Work, asked, known_part}
 use Rattle.linear_form.specs.internal.Run.{along}
 use Rattle.linear_form.specs.internal.Run.Evaluation.{decide}
-use Rattle.linear_form.specs.Query.{next}
 use Rattle.linear_values.specs.Lin.{Linear}
 use Rattle.linear_form.specs.declared.parts.Operation.{Operation}
 
@@ -27,13 +26,13 @@ three = record { atom = Atom.truth 3; held = true }
 
 -- its parts
 value : Linear → Part
-value x = Part.part (Work.known (Result.number x)) false
+value x = known_part (Result.number x)
 
 truth : Atom → Part
-truth q = Part.part (Work.asks q) false
+truth q = Part.part (Work.asks q (known_part (Result.truth true)) (known_part (Result.truth false))) false
 
 no : Part
-no = Part.part (Work.known (Result.truth false)) false
+no = known_part (Result.truth false)
 
 whole : Part
 whole = Part.part (Work.two Operation.Ends (Part.part (Work.choice (truth (Atom.truth 3)) (value one) (value zero)) false) (Part.part (Work.choice (Part.part (Work.choice (truth (Atom.truth 3)) (truth (Atom.truth 4)) no) false) (value None) (value zero)) false)) false

@@ -101,9 +101,6 @@ run_result ps (ask (Atom.truth x) y n) P i a j h e = heard_result (known x (take
 pub gives_first : {A : Type 0} (r : Result Found Stop) (e : Stop) (ps : List Taken) (q : Query Linear) (t : Query A) (f : A → Query Linear) (i : ℕ) → r ≡ Err e → q ≡ next t f → Stops e (along ps t i) → Gives r (along ps q i)
 gives_first r e ps q t f i h k g = rw (h, k) (stops_first e ps t f i g)
 
-pub run_same : {A B : Type 0} (ps : List Taken) (q q' : Query A) (f : A → Query B) (i j : ℕ) → along ps q i ≡ along ps q' j → along ps (next q f) i ≡ along ps (next q' f) j
-run_same ps q q' f i j e = run_next ps q f i ∙ ap (λ z. onward z (λ a k. along ps (f a) k)) e ∙ sym (run_next ps q' f j)
-
 pub run_decide : {A B : Type 0} (ps : List Taken) (q : Query A) (f : A → Query B) (i : ℕ) (a : Atom) → along ps q i ≡ decide a → along ps (next q f) i ≡ decide a
 run_decide ps q f i a e = run_next ps q f i ∙ ap (λ z. onward z (λ a k. along ps (f a) k)) e
 

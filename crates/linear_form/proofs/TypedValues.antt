@@ -14,11 +14,10 @@ use Rattle.heylo_formula.specs.Operators.{differenceᵛ, validateᵛ, covalidate
 use Rattle.heylo_formula.specs.State.{Env, environment, IsTyped, has, fit, default, put, number_of}
 use Rattle.heylo_formula.specs.Choices.{Choices, here, left, right}
 use Rattle.heylo_formula.specs.Meaning.{value, holds}
-use Rattle.heylo_formula.specs.Typing.{HasTypes, NumberType, Types, retyped, number_type, join, joined, is_unsigned, only_if, constant_type, difference_type, scale_type, type_of}
+use Rattle.heylo_formula.specs.Typing.{HasTypes, NumberType, Types, retyped, number_type, join, joined, is_unsigned, only_if, constant_type, difference_type, scale_type, type_of, types_in}
 use Rattle.heylo_formula.specs.declared.types.Ty.{Ty}
 use Rattle.heylo_formula.specs.declared.values.Val.{Val}
 use Rattle.heylo_formula.specs.declared.values.Val.TheVariants.{Truth, Num}
-use Rattle.heylo_formula.specs.Typing.{types_in}
 
 typed_list : (tys : List Ty) (s : List Val) (x : ℕ) → IsTyped tys s → has (types_in tys x) (environment s x) ≡ true
 typed_list [] s x h = ap (λ l. has Ty.Bool (get_or l x (Truth false))) h

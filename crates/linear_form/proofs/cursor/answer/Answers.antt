@@ -1,7 +1,6 @@
-use Rattle.std.proofs.Common.{sym, subst}
+use Rattle.std.proofs.Common.{sym, subst, true, false}
 use Rattle.linear_form.specs.PlainPaths.{atom_of, path_of}
 use Rattle.linear_form.specs.Query.Query.{ask, done}
-use Rattle.std.proofs.Common.{true, false}
 use Rattle.linear_form.specs.internal.EvaluationResults.{GivesTruth}
 use Rattle.linear_form.specs.internal.Run.{along}
 use Rattle.linear_form.proofs.Runs.{run_row}

@@ -1,12 +1,15 @@
-use Rattle.std.proofs.Common.{ap, refl, subst, sym, ◌∙◌}
+use Rattle.std.proofs.Common.{ap, refl, rules, subst, sym, ◌∙◌}
 use Rattle.linear_form.specs.internal.Run.{along}
 use Rattle.linear_form.specs.internal.Run.Evaluation.{value}
 use Rattle.linear_form.specs.internal.EvaluationResults.{Gives}
+use Rattle.linear_form.specs.internal.Outcomes.{Result}
+use Rattle.linear_values.specs.PlainValues.{linear_of}
+use Rattle.linear_form.proofs.OperatedOutcomes.{comes_stopped}
 use Rattle.linear_form.proofs.Runs.{stops_valued, valued_run}
 use Rattle.linear_form.proofs.operations.number_came.Goals as goal
 
-pub returns-in_ok-of_value-in-Ok : goal.returns-in_ok-of_value-in-Ok
-returns-in_ok-of_value-in-Ok c = λ ps q i h. valued_run ps q i c.in-Ok.found.next _ (subst (λ r. Gives r (along ps q i)) c.in-Ok.is h) ∙ ap (λ r. value r c.in-Ok.found.next) (sym c.in_ok-of_value-in-Ok.ensures)
+pub returns-in_err-value : goal.returns-in_err-value
+returns-in_err-value c = λ ps q i h. comes_stopped _ _ _ (search rules) (stops_valued c.in_err-value.field-0.0 ps q q i refl (subst (λ r. Gives r (along ps q i)) c.in_err-value.was h))
 
-pub returns-in-Err : goal.returns-in-Err
-returns-in-Err c = λ ps q i h. stops_valued c.in-Err.stop ps q q i refl (subst (λ r. Gives r (along ps q i)) c.in-Err.is h)
+pub returns : goal.returns
+returns c = λ ps q i h. valued_run ps q i c.in_ok-value.field-0.next _ (subst (λ r. Gives r (along ps q i)) c.in_ok-value.was h) ∙ ap (λ v. value (Result.number (linear_of v)) c.in_ok-value.field-0.next) (sym c.in_ok-new.ensures.ok)

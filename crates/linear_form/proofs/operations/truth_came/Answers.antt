@@ -1,11 +1,12 @@
-use Rattle.std.proofs.Common.{refl, subst}
+use Rattle.std.proofs.Common.{refl, rules, subst}
 use Rattle.linear_form.specs.internal.Run.{along}
 use Rattle.linear_form.specs.internal.EvaluationResults.{GivesTruth}
+use Rattle.linear_form.proofs.OperatedOutcomes.{comes_stopped}
 use Rattle.linear_form.proofs.Runs.{stops_told, told_run}
 use Rattle.linear_form.proofs.operations.truth_came.Goals as goal
 
-pub returns-in-Ok : goal.returns-in-Ok
-returns-in-Ok c = λ ps q i h. told_run ps q i c.in-Ok.tested.next _ (subst (λ r. GivesTruth r (along ps q i)) c.in-Ok.is h)
+pub returns-in_err-holds : goal.returns-in_err-holds
+returns-in_err-holds c = λ ps q i h. comes_stopped _ _ _ (search rules) (stops_told c.in_err-holds.field-0.0 ps q q i refl (subst (λ r. GivesTruth r (along ps q i)) c.in_err-holds.was h))
 
-pub returns-in-Err : goal.returns-in-Err
-returns-in-Err c = λ ps q i h. stops_told c.in-Err.stop ps q q i refl (subst (λ r. GivesTruth r (along ps q i)) c.in-Err.is h)
+pub returns : goal.returns
+returns c = λ ps q i h. told_run ps q i c.in_ok-holds.field-0.next _ (subst (λ r. GivesTruth r (along ps q i)) c.in_ok-holds.was h)
