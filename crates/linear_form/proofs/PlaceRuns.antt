@@ -11,7 +11,7 @@ use Rattle.linear_form.specs.internal.GoalParts.{IsGoalPart}
 use Rattle.linear_form.specs.internal.Parts.{asked}
 use Rattle.linear_form.specs.internal.PlainParts.{part_of}
 use Rattle.linear_form.specs.Places.{IsOn}
-use Rattle.linear_form.specs.declared.evaluations.Frame.{Frame}
+use Rattle.linear_form.specs.declared.places.Frame.{Frame}
 use Rattle.linear_form.specs.declared.parts.Part.{Part}
 use Rattle.linear_form.proofs.SplitPaths.{walk_nil}
 

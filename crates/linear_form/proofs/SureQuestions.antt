@@ -14,7 +14,7 @@ use Rattle.linear_form.specs.Standings.{Standing}
 use Rattle.linear_form.specs.Places.{IsOn}
 use Rattle.linear_form.specs.internal.Evaluations.{left_at, standing}
 use Rattle.linear_form.specs.internal.LastingTrees.{Lasts}
-use Rattle.linear_form.specs.declared.evaluations.Evaluation.{Evaluation}
+use Rattle.linear_form.specs.declared.places.Evaluation.{Evaluation}
 use Rattle.linear_form.proofs.SplitPaths.{walk_nil, walk_append}
 
 pub lasts_bits : (A : Type 0) (k : ℕ) → Lasts {A = A} k bits
