@@ -10,3 +10,4 @@ mod UnitRows
 mod TighteningExamples
 mod KeptTerms
 pub mod exported
+mod Nothing

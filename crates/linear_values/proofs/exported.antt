@@ -3,6 +3,7 @@ pub mod KeptParts
 pub mod KeptTerms
 pub mod LinearValues
 pub mod MergedTerms
+pub mod Nothing
 pub mod Products
 pub mod RowParts
 pub mod TightRows

@@ -3,7 +3,7 @@
 ghost use Rattle.std.specs.Prelude.{◌≡◌, IfOk, true};
 ghost use Rattle.linear_values.specs.Lin.{all_fit, is_sized as lin_is_sized, constant as constant_lin, variable as variable_lin, plus as lin_plus, minus as lin_minus, scaled as lin_scaled, times as times_terms};
 ghost use Rattle.linear_rows.specs.Numbers.{fits as number_fits};
-ghost use Rattle.linear_values.specs.Operator.{has_no_terms};
+ghost use Rattle.linear_values.specs.Operator.{has_no_terms, is_nothing as value_is_nothing};
 ghost use Rattle.linear_values.specs.Kept.{IsKept};
 ghost use Rattle.linear_values.specs.PlainValues.{lin_of, linear_of};
 
@@ -46,6 +46,16 @@ pub fn is_constant(a: &Lin) -> bool
     ensures { result ≡ has_no_terms (lin_of a.now).terms }
 {
     a.terms.as_slice().split_first().is_none()
+}
+
+/// Whether the value, where None stands for infinity, is the constant 0.
+pub fn is_nothing(value: &Option<Lin>) -> bool
+    ensures { result ≡ value_is_nothing (linear_of value.now) }
+{
+    match value {
+        Some(a) => is_constant(a) && is_zero(&a.rest),
+        None => false,
+    }
 }
 
 /// Whether each coefficient and the constant are below 2^62.
@@ -130,10 +140,8 @@ pub fn minus(alloc: Global, a: &Lin, b: &Lin) -> Result<Lin, AllocError>
 pub fn copy(alloc: Global, a: &Lin) -> Result<Lin, AllocError>
     ensures { IfOk result (λ c. lin_of c ≡ lin_of a.now) }
 {
-    let mut terms = Vec::new(alloc);
-    terms.extend_from_slice(&a.terms)?;
     Ok(Lin {
-        terms,
+        terms: Vec::from_slice(alloc, &a.terms)?,
         rest: a.rest,
     })
 }
