@@ -1,0 +1,2 @@
+mod FoldedForms
+mod Examples
