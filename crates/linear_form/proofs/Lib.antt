@@ -47,6 +47,7 @@ mod PlainPartsAre
 mod OperatedOutcomes
 mod PartsThatWait
 mod ReadyParts
+mod FoldedForms
 mod FramesThatAsk
 mod NodeWorks
 mod GoalPartLists

@@ -1,7 +1,7 @@
 -- Differences of linear values, one of which holds no variable.
 use Rattle.std.proofs.Common.{◌≡◌, [], ◌∷◌, refl, sym, ap, ap₂, ◌∙◌, ℕ, List, Bool, true, false, ◌&&◌, ◌||◌, ◌<◌, ◌+◌, length, get_or, cond}
 use Rattle.heyvl_num.specs.Rational.{Rational, ◌+ʳ◌, ◌*ʳ◌}
-use Rattle.linear_values.specs.Lin.{Lin, Terms, AreNormal, merged, more, times, minus, all_fit, is_sized}
+use Rattle.linear_values.specs.Lin.{Lin, Terms, AreNormal, merged, times, minus, all_fit, is_sized}
 use Rattle.linear_rows.specs.Numbers.{minus_oneʳ, fits, is_negative}
 use Rattle.linear_form.specs.PlainPaths.{path_of}
 use Rattle.linear_form.specs.Query.{Taken}
@@ -13,17 +13,11 @@ use Rattle.linear_form.specs.internal.Run.Evaluation.{value}
 use Rattle.linear_form.specs.declared.paths.Taken as T
 use Rattle.linear_form.proofs.OperatorRuns.{run_below_large, run_below_known, run_below_asked}
 use Rattle.linear_form.proofs.Runs.{turned_at}
+use Rattle.linear_values.proofs.exported.Nothing.{alone}
 use Rattle.linear_values.proofs.exported.KeptParts.{terms_fit}
 use Rattle.linear_values.proofs.exported.KeptTerms.{times_normal}
-use Rattle.linear_values.proofs.exported.MergedTerms.{passed, minus_one_nonzero, difference_made}
+use Rattle.linear_values.proofs.exported.MergedTerms.{minus_one_nonzero, difference_made}
 use Rattle.linear_rows.proofs.exported.Narrow.{fits_negated}
-
-alone : (us : Terms) → AreNormal us → merged us [] ≡ us
-alone [] h = refl
-alone (u ∷ us) h = ap (merged us) put ∙ passed u us [] h.1.0 ∙ ap (λ z. u ∷ z) (alone us h.1.1)
-  where
-    put : more u.0 u.1 [] ≡ u ∷ []
-    put = rw h.0
 
 minus_is : (a b : Lin) → minus a b ≡ record { terms = merged (times minus_oneʳ b.terms) a.terms; rest = a.rest +ʳ (minus_oneʳ *ʳ b.rest) }
 minus_is a b = sym (difference_made a b _ _ _ refl refl refl)

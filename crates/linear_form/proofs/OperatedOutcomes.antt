@@ -1,12 +1,16 @@
 -- Operators over what parts come to, which aren't values.
-use Rattle.std.proofs.Common.{◌≡◌, ℕ, List, ap, ap₂, ◌∙◌, refl, Global, Option}
+use Rattle.std.proofs.Common.{◌≡◌, ℕ, List, ap, ap₂, ◌∙◌, refl, Global, Option, Some, None, cond}
 use Rattle.std.specs.Prelude as M
 use Rattle.std.specs.declared.rc.Rc.{Rc}
 use Rattle.linear_values.specs.declared.lin.Lin.{Lin}
+use Rattle.linear_values.specs.Kept.{IsKeptValue}
 use Rattle.linear_values.specs.Lin.{Linear}
+use Rattle.linear_values.proofs.exported.Nothing.{plus_nothing}
 use Rattle.linear_values.specs.PlainValues.{linear_of}
 use Rattle.linear_form.specs.Query.{Taken}
-use Rattle.linear_form.specs.internal.Outcomes.{Result}
+use Rattle.linear_form.specs.Query.Query.{bits, done}
+use Rattle.linear_form.specs.Questions as q
+use Rattle.linear_form.specs.internal.Outcomes.{Result, valued}
 use Rattle.heylo_graph.specs.declared.nodes.Node.{Node}
 use Rattle.linear_form.specs.internal.EvaluationResults.{Stops}
 use Rattle.linear_form.specs.internal.Parts.{operated, operation, operator}
@@ -66,3 +70,12 @@ no_operator ps (Node.Ite a b c) x y i h0 h1 h2 h3 h4 h5 h6 h7 h8 h9 h10 h11 h12 
 -- where it stops
 pub comes_stopped : (r : M.Result Came Stop) (e : Stop) (o : Evaluation Result) → r ≡ M.Err e → Stops e o → Comes r o
 comes_stopped r e o k h = rw k h
+
+-- ---- Sums with 0
+
+sum_nothing : (y : Linear) → IsKeptValue y → q.sum q.zero y ≡ done y
+sum_nothing None h = refl
+sum_nothing (Some b) h = ap (λ l. q.sized (Some l)) (plus_nothing b h) ∙ ap (λ t. cond t (done (Some b)) bits) h.sized
+
+pub nothing_added : (n : Node) (a b : _) (x y : Linear) → n ≡ Node.Sum a b → x ≡ q.zero → IsKeptValue y → operator n x y ≡ done (Result.number y)
+nothing_added n a b x y e g h = ap (λ n. operator n x y) e ∙ ap (λ x. valued (q.sum x y)) g ∙ ap valued (sum_nothing y h)

@@ -1,7 +1,6 @@
 -- Parts that are ready: what they come to before all answers, and whether they surely ask a comparison.
 use Rattle.std.proofs.Common.{◌≡◌, ℕ, [], ◌∷◌, refl, sym, ap, ap₂, ◌∙◌, subst, Bool, true, false, cond, ◌⊎◌, inl, inr, Global}
 use Prim.Native.Nat.{suc}
-use Rattle.std.specs.declared.boxed.Box.{Box}
 use Rattle.std.specs.declared.rc.Rc.{Rc}
 use Rattle.std.specs.Prelude as M
 use Rattle.std.specs.Prelude.{Some, None, Ok, Err, IsTrue}
@@ -111,7 +110,7 @@ stop_tells o p u x y S.TheVariants.Bits e f h = tt
 stop_tells o p u x y (S.TheVariants.Memory m) e f h = tt
 
 -- a question that is asked first
-pub decided : (o : Operation) (p u : Part) (e : Stop) (a : Box A.Atom Global) → e ≡ S.TheVariants.Decide a → TellsAtOnce o p u (Err e) → IsFirst o p u (atom_of a.value)
+pub decided : (o : Operation) (p u : Part) (e : Stop) (a : Rc A.Atom Global) → e ≡ S.TheVariants.Decide a → TellsAtOnce o p u (Err e) → IsFirst o p u (atom_of a.value)
 decided o p u e a k h = subst (λ e. TellsAtOnce o p u (Err e)) k h
 
 pub tells_stopped : (o : Operation) (p u : Part) (r : M.Result O.Outcome Stop) (e : Stop) → r ≡ Err e → TellsAtOnce o p u (Err e) → TellsAtOnce o p u r

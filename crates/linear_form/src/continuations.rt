@@ -8,7 +8,7 @@ ghost use Rattle.linear_form.specs.Places.{IsOn};
 ghost use Rattle.linear_form.specs.PlainPaths.{path_of};
 
 use crate::cursor::Stop;
-use crate::paths::Taken;
+use crate::paths::{Taken, copy_atom};
 use crate::places::{Evaluation, Focus, Place, Reached};
 use crate::questions::Ask;
 use crate::ready_parts::goal_part;
@@ -61,7 +61,7 @@ pub fn go_on_from(
         let ask = match advance(alloc, &mut evaluation, path) {
             Ok(None) => continue,
             Ok(Some(ask)) => Box::into_inner(ask),
-            Err(Stop::Decide(atom)) => Ask::Decide(Box::into_inner(atom)),
+            Err(Stop::Decide(atom)) => Ask::Decide(copy_atom(alloc, &atom)?),
             Err(Stop::Bits) => Ask::Bits,
             Err(Stop::Memory(e)) => return Err(e),
         };

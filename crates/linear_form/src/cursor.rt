@@ -1,16 +1,16 @@
 //! An evaluation along a path: where it stands, and why it stops.
 
 ghost use Rattle.std.specs.Prelude.{◌≡◌, ◌+◌, alloc_error, drop, true, false, IfOk};
-ghost use Rattle.linear_form.specs.Query.{Atom as PlainAtom};
 ghost use Rattle.linear_form.specs.Query.Query.{ask, done};
 ghost use Rattle.linear_form.specs.internal.Run.{along, turned, Evaluation};
 ghost use Rattle.linear_form.specs.PlainPaths.{path_of, atom_of};
 ghost use Rattle.linear_form.specs.internal.EvaluationResults.{GivesTruth};
 
 use crate::known_truths::known_truth;
-use crate::paths::{Atom, Taken, copy_atom};
+use crate::paths::{Atom, Taken};
 use linear_values::Lin;
 use std::alloc::{AllocError, AllocFailed, Global};
+use std::rc::Rc;
 
 /// A linear value, or None for infinity, and the place where the path goes on.
 #[derive(Drop)]
@@ -30,7 +30,7 @@ pub struct Tested {
 #[derive(Drop)]
 pub enum Stop {
     /// The path doesn't answer this question.
-    Decide(Box<Atom>),
+    Decide(Rc<Atom, Global>),
     /// A number reaches 2^62.
     Bits,
     Memory(AllocError),
@@ -57,8 +57,8 @@ impl<T: Drop> From<AllocFailed<T>> for Stop {
 }
 
 /// The answer of the path to a question, or the question.
-pub fn answered(alloc: Global, atom: &Atom, path: &[Taken], at: usize) -> Result<Tested, Stop>
-    ensures { GivesTruth result (turned (drop at (path_of path.now)) (atom_of atom.now) (Evaluation.value true (at + 1)) (Evaluation.value false (at + 1))) }
+pub fn answered(atom: &Rc<Atom, Global>, path: &[Taken], at: usize) -> Result<Tested, Stop>
+    ensures { GivesTruth result (turned (drop at (path_of path.now)) (atom_of atom.now.value) (Evaluation.value true (at + 1)) (Evaluation.value false (at + 1))) }
 {
     if at < path.len() {
         Ok(Tested {
@@ -66,28 +66,19 @@ pub fn answered(alloc: Global, atom: &Atom, path: &[Taken], at: usize) -> Result
             next: at + 1,
         })
     } else {
-        let question = copy_atom(alloc, atom)?;
-        Err(Stop::Decide(Box::new(alloc, question)?))
-    }
-}
-
-/// The truth of a Boolean variable: known where the path has decided it before this place, else asked.
-#[inline(never)]
-pub fn truth(alloc: Global, x: u32, path: &[Taken], at: usize) -> Result<Tested, Stop>
-    ensures { GivesTruth result (along (path_of path.now) (ask (PlainAtom.truth x) (done true) (done false)) at) }
-{
-    match known_truth(x, path, at) {
-        Some(holds) => Ok(Tested { holds, next: at }),
-        None => answered(alloc, &Atom::Truth(x), path, at),
+        Err(Stop::Decide(Rc::clone(atom)?))
     }
 }
 
 /// The answer to a question: known where the path has decided a Boolean before this place, else the next one of the path.
-pub fn answer(alloc: Global, atom: &Atom, path: &[Taken], at: usize) -> Result<Tested, Stop>
-    ensures { GivesTruth result (along (path_of path.now) (ask (atom_of atom.now) (done true) (done false)) at) }
+pub fn answer(atom: &Rc<Atom, Global>, path: &[Taken], at: usize) -> Result<Tested, Stop>
+    ensures { GivesTruth result (along (path_of path.now) (ask (atom_of atom.now.value) (done true) (done false)) at) }
 {
-    match atom {
-        Atom::Truth(x) => truth(alloc, *x, path, at),
-        Atom::Row(_, _) => answered(alloc, atom, path, at),
+    match &**atom {
+        Atom::Truth(x) => match known_truth(*x, path, at) {
+            Some(holds) => Ok(Tested { holds, next: at }),
+            None => answered(atom, path, at),
+        },
+        Atom::Row(_, _) => answered(atom, path, at),
     }
 }

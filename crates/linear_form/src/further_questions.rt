@@ -10,8 +10,8 @@ ghost use Rattle.linear_form.specs.Query.{Taken as PlainTaken};
 ghost use Rattle.linear_form.specs.internal.Evaluations.{frame_asks};
 
 use crate::parts::Work;
+use crate::paths::is_comparison;
 use crate::places::{Evaluation, Focus, Frame, Place};
-use crate::ready_parts::is_comparison;
 
 /// Whether the evaluation stands behind as many answers, and surely asks twice from there on: so it isn't at its end once its
 /// question is answered. It may be told no of any evaluation.

@@ -43,7 +43,7 @@ pub(crate) fn work_of_node(
         Node::Select(_, _, _) | Node::Ite(_, _, _) => Ok(Work::Choice(first, second, third)),
         Node::Bind(_, _, _, _, _) => Ok(Work::Large),
         Node::Truth(b) => Ok(Work::Known(Outcome::Truth(*b))),
-        Node::Flag(x) => question(alloc, Atom::Truth(*x)),
+        Node::Flag(x) => question(alloc, Rc::new(alloc, Atom::Truth(*x))?),
         Node::Not(_) => denied(alloc, first),
         Node::And(_, _) => Ok(Work::Choice(first, second, truth(alloc, false)?)),
         Node::Or(_, _) => Ok(Work::Choice(first, truth(alloc, true)?, second)),
@@ -104,11 +104,11 @@ fn denied(alloc: Global, test: Rc<Part, Global>) -> Result<Work, AllocError>
 }
 
 /// The answer of a question.
-pub(crate) fn question(alloc: Global, atom: Atom) -> Result<Work, AllocError>
-    ensures { IfOk result (λ w. work_of w ≡ PlainWork.asks (atom_of atom) (known_part (Outcomes.truth true)) (known_part (Outcomes.truth false))) }
+pub(crate) fn question(alloc: Global, atom: Rc<Atom, Global>) -> Result<Work, AllocError>
+    ensures { IfOk result (λ w. work_of w ≡ PlainWork.asks (atom_of atom.value) (known_part (Outcomes.truth true)) (known_part (Outcomes.truth false))) }
 {
     let yes = truth(alloc, true)?;
-    Ok(Work::Asks(Rc::new(alloc, atom)?, yes, truth(alloc, false)?))
+    Ok(Work::Asks(atom, yes, truth(alloc, false)?))
 }
 
 /// A truth that is known.

@@ -19,6 +19,7 @@ use crate::operators::{
 use crate::parts::{Operation, Outcome};
 use crate::paths::Taken;
 use heylo_graph::Node;
+use linear_values::lin::is_nothing;
 use std::alloc::Global;
 use std::rc::Rc;
 
@@ -71,6 +72,10 @@ pub(crate) fn operated(
         return Ok(Came { outcome, next: at });
     };
     match node {
+        Node::Sum(_, _) if is_nothing(x) => {
+            let outcome = second.clone()?;
+            Ok(Came { outcome, next: at })
+        }
         Node::Sum(_, _) => number_came(alloc, sum(alloc, x, y, path, at)),
         Node::Diff(_, _) => number_came(alloc, difference(alloc, x, y, path, at)),
         Node::Cut(_, _) => number_came(alloc, cut(alloc, x, y, path, at)),

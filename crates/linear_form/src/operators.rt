@@ -20,6 +20,7 @@ use linear_values::lin::{constant, copy, copy_value, is_constant, is_sized, minu
 use linear_values::multiples::small_multiple;
 use linear_values::numbers::{fits, is_negative, is_zero, signed, sum as number_sum};
 use std::alloc::Global;
+use std::rc::Rc;
 
 /// Whether a linear value is at most 0 or, where strict, below 0: known without variables, else asked.
 fn is_below(alloc: Global, a: Lin, strict: bool, path: &[Taken], at: usize) -> Result<Tested, Stop>
@@ -33,7 +34,8 @@ fn is_below(alloc: Global, a: Lin, strict: bool, path: &[Taken], at: usize) -> R
             next: at,
         })
     } else {
-        answered(alloc, &Atom::Row(a, strict), path, at)
+        let atom = Rc::new(alloc, Atom::Row(a, strict))?;
+        answered(&atom, path, at)
     }
 }
 

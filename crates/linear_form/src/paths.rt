@@ -1,7 +1,8 @@
 //! Questions and answers.
 
-ghost use Rattle.std.specs.Prelude.{◌≡◌, IfOk};
+ghost use Rattle.std.specs.Prelude.{◌≡◌, IfOk, IsTrue};
 ghost use Rattle.linear_form.specs.PlainPaths.{atom_of};
+ghost use Rattle.linear_form.specs.internal.LastingTrees.{IsComparison};
 
 use linear_values::Lin;
 use linear_values::lin::copy;
@@ -31,4 +32,11 @@ pub fn copy_atom(alloc: Global, atom: &Atom) -> Result<Atom, AllocError>
         Atom::Truth(x) => Ok(Atom::Truth(*x)),
         Atom::Row(left, strict) => Ok(Atom::Row(copy(alloc, left)?, *strict)),
     }
+}
+
+/// Whether a question is a comparison.
+pub(crate) fn is_comparison(atom: &Atom) -> bool
+    ensures { IsTrue result → IsComparison (atom_of atom.now) }
+{
+    matches!(atom, Atom::Row(_, _))
 }

@@ -3,9 +3,8 @@
 ghost use Rattle.std.specs.Prelude.{◌≡◌, IfOk, IfSome, IsTrue, map};
 ghost use Rattle.std.specs.Rc.{rc_value};
 ghost use Rattle.heylo_formula.specs.Goals.{goal_of};
-ghost use Rattle.linear_form.specs.PlainPaths.{atom_of};
 ghost use Rattle.linear_form.specs.internal.GoalParts.{AreParts, Compares, IsGoalPart, IsOver, IsReadyAs, TellsAtOnce};
-ghost use Rattle.linear_form.specs.internal.LastingTrees.{IsComparison, Lasts};
+ghost use Rattle.linear_form.specs.internal.LastingTrees.{Lasts};
 ghost use Rattle.linear_form.specs.internal.Parts.{asked_by_work, IsReady, IsReadyWork};
 ghost use Rattle.linear_form.specs.internal.PlainParts.{outcome_of, part_of, work_of};
 
@@ -13,7 +12,8 @@ use crate::cursor::Stop;
 use crate::node_work::{part_at, question, unsure, work_of_node};
 use crate::operations::{Came, operated};
 use crate::parts::{Operation, Outcome, Part, Work};
-use crate::paths::Atom;
+use crate::paths::is_comparison;
+use form_folding::put_folded;
 use heylo_formula::Goal;
 use heylo_graph::{Graph, Node, NodeId};
 use std::alloc::{AllocError, Global};
@@ -27,8 +27,8 @@ pub(crate) fn goal_part(alloc: Global, goal: &Goal) -> Result<Rc<Part, Global>, 
     ensures { IfOk result (λ p. IsGoalPart (goal_of goal.now) p.value) }
 {
     let mut graph = Graph::new(alloc);
-    let stated = graph.put(&goal.stated)?;
-    let found = graph.put(&goal.found)?;
+    let stated = put_folded(&mut graph, &goal.stated)?;
+    let found = put_folded(&mut graph, &goal.found)?;
     let parts = parts_of(alloc, &graph)?;
     let first = part_at(alloc, &parts, Some(stated))?;
     let second = part_at(alloc, &parts, Some(found))?;
@@ -68,7 +68,7 @@ fn ready_part(alloc: Global, work: Work, room: &mut usize) -> Result<Part, Alloc
         Err(Stop::Decide(atom)) => {
             let asks = is_comparison(&atom);
             if compares(operation) {
-                let work = question(alloc, Box::into_inner(atom))?;
+                let work = question(alloc, atom)?;
                 Ok(Part { work, asks })
             } else {
                 Ok(Part { work, asks })
@@ -164,13 +164,6 @@ fn has_room(room: &mut usize, outcome: &Outcome) -> bool {
     let fits = terms <= *room;
     *room = room.saturating_sub(terms);
     fits
-}
-
-/// Whether a question is a comparison.
-pub(crate) fn is_comparison(atom: &Atom) -> bool
-    ensures { IsTrue result → IsComparison (atom_of atom.now) }
-{
-    matches!(atom, Atom::Row(_, _))
 }
 
 /// Whether what is done with two values is a comparison alone.

@@ -31,7 +31,7 @@ pub(crate) fn advance(
             }
             Work::Large => Err(Stop::Bits),
             Work::Asks(atom, yes, no) => {
-                let tested = answer(alloc, atom, path, place.at)?;
+                let tested = answer(atom, path, place.at)?;
                 place.focus = Focus::Part(Rc::clone(if tested.holds { yes } else { no })?);
                 place.at = tested.next;
                 Ok(None)

@@ -28,15 +28,14 @@ returns-in-Large c = stops_there Bits (path_of c.args.path.now) (asked_by (Part 
 pub returns-in_err-tested-in-Asks : goal.returns-in_err-tested-in-Asks
 returns-in_err-tested-in-Asks c =
     let e = does c.in-Part.part.value c.deref.result.now _ c.deref.ensures c.in-Asks.is ∙ asks_work c.in-Asks.atom c.in-Asks.yes c.in-Asks.no in
-    let s = subst (λ a. Stops c.in_err-tested-in-Asks.field-0.0 (along (path_of c.args.path.now) (ask (atom_of a) (done true) (done false)) c.args.place.now.at)) c.deref-in-Asks.ensures c.in_err-tested-in-Asks.ensures in
-    let k = stops_first c.in_err-tested-in-Asks.field-0.0 (path_of c.args.path.now) (ask (atom_of c.in-Asks.atom.value) (done true) (done false)) (λ b. cond b (asked (part_of c.in-Asks.yes.value)) (asked (part_of c.in-Asks.no.value))) c.args.place.now.at s in
+    let k = stops_first c.in_err-tested-in-Asks.field-0.0 (path_of c.args.path.now) (ask (atom_of c.in-Asks.atom.value) (done true) (done false)) (λ b. cond b (asked (part_of c.in-Asks.yes.value)) (asked (part_of c.in-Asks.no.value))) c.args.place.now.at c.in_err-tested-in-Asks.ensures in
     stopped (path_of c.args.path.now) (left_at c.args.place.now) c.args.place.now.at (weight c.args.place.now) c.args.place.now c.from_residual-in_err-tested-in-Asks.result c.in_err-tested-in-Asks.field-0.0 (search rules) (stops_there c.in_err-tested-in-Asks.field-0.0 (path_of c.args.path.now) (asked_by (Part c.in-Part.part)) c.args.place.now.frames.items c.args.place.now c.args.place.now (left_at_focus c.args.place.now (Part c.in-Part.part) c.in-Part.is) (subst (λ q. Stops c.in_err-tested-in-Asks.field-0.0 (along (path_of c.args.path.now) q c.args.place.now.at)) (sym (asks_by c.in-Part.part.value _ e)) k) refl refl c.requires)
 
 pub returns-in_ok-clone-in-Asks : goal.returns-in_ok-clone-in-Asks
 returns-in_ok-clone-in-Asks c =
     let e = does c.in-Part.part.value c.deref.result.now _ c.deref.ensures c.in-Asks.is ∙ asks_work c.in-Asks.atom c.in-Asks.yes c.in-Asks.no in
     let r : c.in_ok-clone-in-Asks.field-0.value ≡ cond c.in_ok-tested-in-Asks.tested.holds c.in-Asks.yes.value c.in-Asks.no.value = elim c.if-tested.branch [ then-tested w ↦ c.in_ok-clone-in-Asks.ensures.cases ∙ ap (λ b. b.now.value) w.clone-is ∙ ap (λ b. cond b c.in-Asks.yes.value c.in-Asks.no.value) (sym w.if-tested.true) | else-tested w ↦ c.in_ok-clone-in-Asks.ensures.cases ∙ ap (λ b. b.now.value) w.clone-is ∙ ap (λ b. cond b c.in-Asks.yes.value c.in-Asks.no.value) (sym w.if-tested.false) ] in
-    at_question (path_of c.args.path.now) c.args.place.now _ c.in-Part.part (atom_of c.in-Asks.atom.value) c.in-Asks.yes c.in-Asks.no c.in_ok-clone-in-Asks.field-0 c.in_ok-tested-in-Asks.tested.holds c.in_ok-tested-in-Asks.tested.next c.in-Part.is e (ap (λ a. along (path_of c.args.path.now) (ask (atom_of a) (done true) (done false)) c.args.place.now.at) (sym c.deref-in-Asks.ensures) ∙ c.in_ok-tested-in-Asks.ensures) r refl refl refl c.requires
+    at_question (path_of c.args.path.now) c.args.place.now _ c.in-Part.part (atom_of c.in-Asks.atom.value) c.in-Asks.yes c.in-Asks.no c.in_ok-clone-in-Asks.field-0 c.in_ok-tested-in-Asks.tested.holds c.in_ok-tested-in-Asks.tested.next c.in-Part.is e c.in_ok-tested-in-Asks.ensures r refl refl refl c.requires
 
 pub returns-in_ok-push-in-Two : goal.returns-in_ok-push-in-Two
 returns-in_ok-push-in-Two c = at_first (path_of c.args.path.now) c.args.place.now _ c.in-Part.part c.in_ok-clone-in-Two.field-0 c.in-Two.first c.in_ok-next-in-Two.next c.in-Part.is (first_done c.in-Part.part.value c.deref.result.now c.in-Two.first c.deref.ensures c.in-Two.is) c.in_ok-clone-in-Two.ensures.cases c.in_ok-next-in-Two.ensures.cases refl c.in_ok-push-in-Two.ensures.items refl c.requires
