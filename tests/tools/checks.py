@@ -1,0 +1,66 @@
+"""What the tests of the tools share: calls of a tool, comparisons, and the line of counts at the end."""
+import os
+import subprocess
+import sys
+
+ROOT = os.path.dirname(os.path.dirname(os.path.dirname(os.path.abspath(__file__))))
+TOOLS = os.path.join(ROOT, "tools")
+EXAMPLES = os.path.join(ROOT, "examples")
+sys.dont_write_bytecode = True
+sys.path.insert(0, TOOLS)
+
+
+class Checks:
+    """Counts comparisons, and prints each that fails."""
+
+    def __init__(self, program, seconds=120):
+        self.program, self.seconds = os.path.abspath(program), seconds
+        self.passed, self.failed, self.skipped = 0, 0, []
+
+    def equal(self, name, wanted, got):
+        """Compares two values; a text shows both from the first line that differs."""
+        if wanted == got:
+            self.passed += 1
+            return
+        self.failed += 1
+        print(f"{name}:\n  wanted: {wanted}\n  got:    {got}")
+
+    def holds(self, name, is_so, why=""):
+        """Counts something that has to be so."""
+        self.equal(name, "so", "so" if is_so else f"not so {why}")
+
+    def skip(self, count, why):
+        """Counts comparisons that can't be made here."""
+        self.skipped.append((count, why))
+
+    def tool(self, name, *words, folder=None, standard_input=b"", **others):
+        """Calls a tool and returns its status, its output and its errors."""
+        environment = {**os.environ, "CAESAR": self.program, "PYTHONDONTWRITEBYTECODE": "1", **others}
+        ended = subprocess.run([os.path.join(TOOLS, name), *words], cwd=folder, input=standard_input, env=environment,
+                               stdout=subprocess.PIPE, stderr=subprocess.PIPE, timeout=self.seconds)
+        return ended.returncode, ended.stdout.decode("utf-8", "backslashreplace"), ended.stderr.decode("utf-8", "backslashreplace")
+
+    def finish(self):
+        """Prints the counts and ends the test."""
+        skipped = ""
+        if self.skipped:
+            skipped = f", {sum(count for count, _ in self.skipped)} skipped: {'; '.join(dict.fromkeys(why for _, why in self.skipped))}"
+        print(f"{self.passed} passed, {self.failed} failed{skipped}")
+        sys.exit(self.failed != 0 or self.passed + len(self.skipped) == 0)
+
+
+def begin(text):
+    """Returns the checks of a test whose one argument is the program."""
+    if len(sys.argv) != 2:
+        print(text.strip(), file=sys.stderr)
+        sys.exit(2)
+    return Checks(sys.argv[1])
+
+
+def written(folder, name, text):
+    """Writes a file and returns its path."""
+    path = os.path.join(folder, name)
+    os.makedirs(os.path.dirname(path), exist_ok=True)
+    with open(path, "wb") as file:
+        file.write(text if isinstance(text, bytes) else text.encode("utf-8"))
+    return path
