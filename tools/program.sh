@@ -7,8 +7,7 @@ state_of() {
     (cd "$top" && find "$@" -printf '%p %i %s %T@ %C@\n') 2>&1
 }
 
-# Whether the program and its sources are as they were when a build succeeded. Proofs aren't compared: neither the program nor what is
-# claimed of it depends on them.
+# Whether the program, its sources, definitions and proofs are as they were when a build succeeded.
 is_built() {
     [ -x "$program" ] && read -r folders 2>/dev/null <"$out/folders" &&
         state_of crates/caesar/out/caesar crates.txt $folders | cmp -s - "$out/built"
