@@ -113,6 +113,35 @@ def canonical(program, path):
     return answer.output
 
 
+def files_of(path):
+    """Returns a file, or the HeyVL files below a folder that aren't hidden, in the order of their names."""
+    if not os.path.isdir(path):
+        return [path]
+
+    def refuse(error):
+        raise Refusal(f"{error.filename}: {error.strerror}", 5)
+
+    found = []
+    for folder, folders, names in os.walk(path, onerror=refuse):
+        folders[:] = [name for name in folders if name[0] != "."]
+        found += [os.path.join(folder, name) for name in names if name.endswith(".heyvl") and name[0] != "."]
+    if not found:
+        raise Refusal(f"{path}: there is no file *.heyvl", 5)
+    return sorted(found)
+
+
+def files_below(paths):
+    """Returns the HeyVL files at and below paths, each once, and the status of the paths that can't be read, which are reported."""
+    found, status = [], 0
+    for path in paths:
+        try:
+            found += map(os.path.normpath, files_of(path))
+        except Refusal as refused:
+            print(shown(refused.line), file=sys.stderr)
+            status = refused.status
+    return list(dict.fromkeys(found)), status
+
+
 def run_tool(main):
     """Runs the main function of a tool and ends with its status; an error of the user is one line on standard error."""
     try:
@@ -131,4 +160,11 @@ def run_tool(main):
     except OSError as error:
         print(shown(f"{error.filename or 'output'}: {error.strerror}"), file=sys.stderr)
         status = 6
+    except Exception as error:
+        line = error.__traceback__
+        while line.tb_next:
+            line = line.tb_next
+        place = f"{os.path.basename(line.tb_frame.f_code.co_filename)}:{line.tb_lineno}"
+        print(shown(f"{os.path.basename(sys.argv[0])}: a fault of this tool at {place}: {type(error).__name__}: {error}"), file=sys.stderr)
+        status = 70
     sys.exit(status)
