@@ -1,0 +1,1 @@
+autocmd BufRead,BufNewFile *.heyvl setfiletype heyvl
