@@ -40,6 +40,10 @@ class Checks:
                                stdout=subprocess.PIPE, stderr=subprocess.PIPE, timeout=self.seconds)
         return ended.returncode, ended.stdout.decode("utf-8", "backslashreplace"), ended.stderr.decode("utf-8", "backslashreplace")
 
+    def run(self, *words, folder=None):
+        """Calls the program and returns what it writes."""
+        return subprocess.run([self.program, *words], cwd=folder, stdout=subprocess.PIPE, timeout=self.seconds).stdout.decode()
+
     def finish(self):
         """Prints the counts and ends the test."""
         skipped = ""

@@ -1,0 +1,108 @@
+"""The sums over the runs of a procedure for growing numbers of steps, and its pre, all as `caesar run` works them out."""
+import os
+import re
+import tempfile
+import typing
+from fractions import Fraction
+
+import calls
+import heyvl
+
+SUM = re.compile(r"(post|reward|running) (infinity|[\d/]+)")
+STOPPED = re.compile(r"run stopped at step (\d+): \w+\n")
+
+
+class Point(typing.NamedTuple):
+    """The sums after some steps; infinity is None."""
+
+    steps: int
+    post: typing.Optional[Fraction]
+    reward: typing.Optional[Fraction]
+    running: typing.Optional[Fraction]
+
+
+class Series(typing.NamedTuple):
+    """The points, the pre, whether the procedure bounds from below, the inputs that the script sets, and why the points end early, or nothing."""
+
+    points: list
+    pre: typing.Optional[Fraction]
+    is_weak: bool
+    settings: list
+    stopped: str
+
+
+def number(text):
+    return None if text == "infinity" else Fraction(text)
+
+
+def written(value):
+    return "infinity" if value is None else str(value)
+
+
+class Runs:
+    """Calls of `caesar run` in a folder of their own, where the script has other numbers of steps."""
+
+    def __init__(self, program, folder, seconds):
+        self.program, self.folder, self.seconds = program, folder, seconds
+
+    def answer(self, file, procedure, script):
+        path = os.path.join(self.folder, "script")
+        with open(path, "wb") as written_script:
+            written_script.write(calls.encoded(script))
+        return calls.call(self.program, ["run", os.path.abspath(file), procedure, path], seconds=self.seconds)
+
+    def sums(self, file, procedure, script):
+        """Returns the sums by their names, or None where the run stops, or the refusal as it was written."""
+        answer = self.answer(file, procedure, script)
+        if answer.status == 0:
+            return dict((name, number(value)) for name, value in SUM.findall(answer.output))
+        if answer.status == 8:
+            return None
+        raise calls.Refusal(answer.output.strip() or "no answer in the time given", answer.status or 2)
+
+    def pre(self, text, procedure, script):
+        """Returns the pre in the state of the script: the post of a procedure that does nothing."""
+        head = "@wlp proc" if procedure.is_weak else "coproc"
+        inputs = ", ".join(f"{name}: {type_name}" for name, type_name in procedure.inputs)
+        posts = "\n".join("post" + text[clause.start + 3 : clause.end] for clause in procedure.clauses if clause[0] == "pre")
+        path = os.path.join(self.folder, "bound.heyvl")
+        with open(path, "wb") as file:
+            file.write(calls.encoded(f"{head} bound({inputs}) -> ()\n{posts}\n{{ }}\n"))
+        names = [name for name, _ in procedure.inputs]
+        lines = [line for line in script.splitlines() if line.startswith("set ") and line.split(" ")[1] in names]
+        sums = self.sums(path, "bound", "\n".join(["steps 1", *lines]))
+        return sums["post"] if sums else None
+
+
+def steps_of(script):
+    """Returns the number of steps in a script's first line, which has been read by the program."""
+    return int(script.split("\n", 1)[0].split(" ")[1])
+
+
+def of_procedure(program, file, name, script, most=100, seconds=None):
+    """Returns the series of a procedure: at most so many points after the first."""
+    with tempfile.TemporaryDirectory(prefix="series-") as folder:
+        runs = Runs(program, folder, seconds)
+        answer = runs.answer(file, name, script)
+        if answer.status not in (0, 8):
+            raise calls.Refusal(refusal(file, answer), answer.status or 2)
+        text, steps = calls.read_text(file), steps_of(script)
+        stopped = STOPPED.fullmatch(answer.output)
+        last = min(steps, int(stopped[1])) if stopped else steps
+        points, count = [], min(last, most)
+        for at in range(count + 1):
+            number_of_steps = last * at // count if count else 0
+            sums = runs.sums(file, name, script.replace(f"steps {steps}", f"steps {number_of_steps}", 1))
+            if sums is None:
+                break
+            points.append(Point(number_of_steps, *(sums[key] for key in ("post", "reward", "running"))))
+        procedure = next(procedure for procedure in heyvl.read(text) if procedure.name == name)
+        settings = [line[4:].replace(" ", " = ", 1) for line in script.splitlines() if line.startswith("set ")]
+        return Series(points, runs.pre(text, procedure, script), procedure.is_weak, settings, answer.output.strip() if stopped else "")
+
+
+def refusal(file, answer):
+    """Returns the line of a call of `run` that was refused."""
+    if calls.fault(answer.output) or answer.status in (None, 5, 7):
+        return ": ".join(calls.refusal(file, answer))
+    return answer.output.strip()
