@@ -516,12 +516,13 @@ def copies_of(loop):
 
 class Part:
     """An obligation. `goal` is the goal of `verify` to which it belongs, `place` where it stands in the source, `label` what it is called and
-    `claim` what it says; `shown` gives the names of its inputs and variables those of the source."""
+    `claim` what it says; `shown` gives the names of its inputs and variables those of the source, and
+    the variables of `hidden` have values that do not matter."""
 
     def __init__(self, procedure, kind, goal, place, label, claim):
         self.procedure, self.kind, self.goal, self.place, self.label, self.claim = procedure, kind, goal, place, label, claim
         self.is_exact, self.is_upper, self.name, self.hint = True, procedure.is_upper, "", ""
-        self.inputs, self.outputs, self.shown, self.known = [], [], {}, {}
+        self.inputs, self.outputs, self.shown, self.known, self.hidden = [], [], {}, {}, set()
         self.pres, self.posts, self.lines = [], [], []
 
     def is_wide(self):
@@ -604,7 +605,7 @@ class Taker:
         procedure, reached = self.procedure, assigned(self.procedure.body)[1]
         is_plain = not has_summaries(procedure.body)
         claim = "the pre is at %s what the body gives" % ("least" if procedure.is_upper else "most")
-        claim += "" if is_plain else ", where it counts as the invariant at a loop and as the pre at a call"
+        claim += "" if is_plain else ", where a loop counts as its invariant and a call as its pre"
         part = Part(procedure, "bound", "bound", self.place_of("pre"), "bound" if is_plain else "start", claim)
         part.inputs, part.outputs = list(map(tuple, procedure.inputs)), list(map(tuple, procedure.outputs))
         names = {name: plain(name, type_name) for name, type_name in self.types.items()}
@@ -786,6 +787,7 @@ class Taker:
     def copy(self, part, code, visible, key, type_name, reached):
         """A variable that is changed, with its value at the start."""
         name, value = code.fresh(key), visible.get(key)
+        part.hidden.update([name] if value is None else [])
         part.shown[name], visible[key] = key, plain(name, type_name)
         if reached and any(key == output for output, _ in self.procedure.outputs):
             part.outputs.append((name, type_name))
