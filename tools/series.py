@@ -2,6 +2,7 @@
 import os
 import re
 import tempfile
+import time
 import typing
 from fractions import Fraction
 
@@ -43,22 +44,23 @@ class Runs:
     """Calls of `caesar run` in a folder of their own, where the script has other numbers of steps."""
 
     def __init__(self, program, folder, seconds):
-        self.program, self.folder, self.seconds = program, folder, seconds
+        self.program, self.folder, self.end = program, folder, time.monotonic() + (seconds or 10**9)
 
     def answer(self, file, procedure, script):
         path = os.path.join(self.folder, "script")
         with open(path, "wb") as written_script:
             written_script.write(calls.encoded(script))
-        return calls.call(self.program, ["run", os.path.abspath(file), procedure, path], seconds=self.seconds)
+        left = self.end - time.monotonic()
+        return calls.call(self.program, ["run", os.path.abspath(file), procedure, path], seconds=left) if left > 0 else calls.Answer(None, "")
 
     def sums(self, file, procedure, script):
-        """Returns the sums by their names, or None where the run stops, or the refusal as it was written."""
+        """Returns the sums by their names, or None where the run stops or the time is over."""
         answer = self.answer(file, procedure, script)
         if answer.status == 0:
             return dict((name, number(value)) for name, value in SUM.findall(answer.output))
-        if answer.status == 8:
+        if answer.status in (8, None):
             return None
-        raise calls.Refusal(answer.output.strip() or "no answer in the time given", answer.status or 2)
+        raise calls.Refusal(answer.output.strip(), answer.status)
 
     def pre(self, text, procedure, script):
         """Returns the pre in the state of the script: the post of a procedure that does nothing."""
@@ -80,7 +82,7 @@ def steps_of(script):
 
 
 def of_procedure(program, file, name, script, most=100, seconds=None):
-    """Returns the series of a procedure: at most so many points after the first."""
+    """Returns the series of a procedure: at most so many points after the first, in so many seconds."""
     with tempfile.TemporaryDirectory(prefix="series-") as folder:
         runs = Runs(program, folder, seconds)
         answer = runs.answer(file, name, script)
@@ -89,16 +91,17 @@ def of_procedure(program, file, name, script, most=100, seconds=None):
         text, steps = calls.read_text(file), steps_of(script)
         stopped = STOPPED.fullmatch(answer.output)
         last = min(steps, int(stopped[1])) if stopped else steps
-        points, count = [], min(last, most)
+        procedure = next(procedure for procedure in heyvl.read(text) if procedure.name == name)
+        pre, points, count = runs.pre(text, procedure, script), [], min(last, most)
         for at in range(count + 1):
             number_of_steps = last * at // count if count else 0
             sums = runs.sums(file, name, script.replace(f"steps {steps}", f"steps {number_of_steps}", 1))
             if sums is None:
+                stopped = stopped or "the time is over"
                 break
             points.append(Point(number_of_steps, *(sums[key] for key in ("post", "reward", "running"))))
-        procedure = next(procedure for procedure in heyvl.read(text) if procedure.name == name)
         settings = [line[4:].replace(" ", " = ", 1) for line in script.splitlines() if line.startswith("set ")]
-        return Series(points, runs.pre(text, procedure, script), procedure.is_weak, settings, answer.output.strip() if stopped else "")
+        return Series(points, pre, procedure.is_weak, settings, answer.output.strip() if answer.status == 8 else stopped or "")
 
 
 def refusal(file, answer):
