@@ -44,14 +44,14 @@ class Runs:
     """Calls of `caesar run` in a folder of their own, where the script has other numbers of steps."""
 
     def __init__(self, program, folder, seconds):
-        self.program, self.folder, self.end = program, folder, time.monotonic() + (seconds or 10**9)
+        self.program, self.folder, self.end = program, folder, None if seconds is None else time.monotonic() + seconds
 
     def answer(self, file, procedure, script):
         path = os.path.join(self.folder, "script")
         with open(path, "wb") as written_script:
             written_script.write(calls.encoded(script))
-        left = self.end - time.monotonic()
-        return calls.call(self.program, ["run", os.path.abspath(file), procedure, path], seconds=left) if left > 0 else calls.Answer(None, "")
+        left = None if self.end is None else max(self.end - time.monotonic(), 0.001)
+        return calls.call(self.program, ["run", os.path.abspath(file), procedure, path], seconds=left)
 
     def sums(self, file, procedure, script):
         """Returns the sums by their names, or None where the run stops or the time is over."""
