@@ -5,6 +5,7 @@ import re
 import typing
 from fractions import Fraction
 
+import conditions
 import goals
 from smtlib import INFINITY, ONE, ZERO, Value
 
@@ -154,7 +155,7 @@ class Evaluation(goals.Goal):
 
     def body(self, procedure, state, posts):
         """Returns the value of a body in a state; `posts` has the variables of the post clauses, each with its name in the source."""
-        blocks, self.changed = list(goals.statements_of(procedure.body)), goals.targets_of(procedure.body)
+        blocks, self.changed = list(conditions.statements_of(procedure.body)), conditions.targets_of(procedure.body)
         self.has_choices = any(s[0] in ("any", "call", "while") for s in blocks) or any(post[0] == "bind" for post in procedure.posts)
         start = {**state, WEIGHT: Value("#", False, Fraction(1)), REWARD: ZERO, CHOICES: Value("#", False, ())}
 

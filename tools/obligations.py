@@ -14,6 +14,7 @@ import itertools
 import typing
 from fractions import Fraction
 
+import conditions
 import goals
 import heyvl
 import smtlib
@@ -134,7 +135,7 @@ def type_of(expression, types):
 
 
 def has_summaries(block):
-    return any(statement[0] in SUMMARIES for statement in goals.statements_of(block))
+    return any(statement[0] in SUMMARIES for statement in conditions.statements_of(block))
 
 
 def live(items, after, is_whole=False):
@@ -170,12 +171,12 @@ def assigned(items, is_whole=False):
         if kind == "end" or kind in SUMMARIES and not is_whole:
             return found, False
         if kind in ("if", "pick"):
-            blocks = [assigned(block, is_whole) for block in goals.blocks_of(item)]
+            blocks = [assigned(block, is_whole) for block in conditions.blocks_of(item)]
             found = found.union(*(names for names, _ in blocks))
             if not any(goes_on for _, goes_on in blocks):
                 return found, False
         elif kind == "while":
-            found |= goals.targets_of([item])
+            found |= conditions.targets_of([item])
         elif kind in ("set", "draw", "toss", "any", "give", "call"):
             found |= set(parts[0])
     return found, True
@@ -542,7 +543,7 @@ class Part:
     def kept_calls(self):
         """Returns the calls that stay in the text."""
         (procedure,) = heyvl.read(self.written(False)[0])
-        return [s for s in goals.statements_of(procedure.body) if s[0] == "call"]
+        return [s for s in conditions.statements_of(procedure.body) if s[0] == "call"]
 
     def written(self, is_wide):
         """Returns the text, the places in the source of its pieces, and its marks by their places."""
@@ -568,11 +569,11 @@ class Taker:
     def __init__(self, source, procedure, has_contexts=True):
         self.source, self.procedure, self.has_contexts, self.parts = source, procedure, has_contexts, []
         self.types = dict([*map(tuple, procedure.inputs), *map(tuple, procedure.outputs)])
-        self.loops = [s for s in goals.statements_of(procedure.body) if s[0] == "while"]
+        self.loops = [s for s in conditions.statements_of(procedure.body) if s[0] == "while"]
         self.scopes, self.calls = {}, 0
         for number, loop in enumerate(self.loops, 1):
             loop.number, loop.label = number, f"the invariant of loop {number} ({self.at(loop.start)})"
-        for statement in goals.statements_of(procedure.body):
+        for statement in conditions.statements_of(procedure.body):
             if statement[0] == "call":
                 statement.label = f"the pre of {statement[2]} ({self.at(statement.start)})"
 
@@ -668,7 +669,7 @@ class Taker:
         invariant, copies, source = invariant_of(loop), copies_of(loop), self.source
         rule = next(node for node in loop.rules if node[0] in ("invariant", "k_induction"))
         word, claims = "least" if self.procedure.is_upper else "most", "the invariant is at %s what %s gives"
-        changed = [name for name in scope if name in goals.targets_of(block)]
+        changed = [name for name in scope if name in conditions.targets_of(block)]
         met = context.chosen(changed)
         following = self.copies(loop, copies, rest)
         part = Part(self.procedure, "iteration", "bound", rule.start, f"loop {loop.number}, iteration",
