@@ -48,7 +48,7 @@ class Maker:
     def put(self, state, targets, values):
         return {**state, **{x: self.widened(value, state[x].type) for x, value in zip(targets, values)}}
 
-    def chosen(self, typed):
+    def state(self, typed):
         return {name: self.constant(type_name) for name, type_name in typed}
 
     def declare_worth(self, state, rest, name, type_name):
@@ -74,7 +74,7 @@ class Maker:
         return self.sum(*sides)
 
     def any_worth(self, state, rest, names):
-        return rest({**state, **self.chosen([(name, state[name].type) for name in names])})
+        return rest({**state, **self.state([(name, state[name].type) for name in names])})
 
     def reward_worth(self, state, rest, expression):
         return rest(state) if self.is_ranking else self.sum(rest(state), self.value(expression, state))
@@ -105,7 +105,7 @@ class Maker:
     def call_worth(self, state, rest, targets, name, arguments):
         called = next(procedure for procedure in self.file if procedure.name == name)
         inputs = {x: self.widened(self.value(argument, state), t) for (x, t), argument in zip(called.inputs, arguments)}
-        pre, outputs = self.clauses(called.pres, inputs), self.chosen(called.outputs)
+        pre, outputs = self.clauses(called.pres, inputs), self.state(called.outputs)
         post = self.clauses(called.posts, {**inputs, **outputs})
         return self.known(pre, post, rest(self.put(state, targets, outputs.values())))
 
@@ -124,7 +124,7 @@ class Maker:
             return self.choice(test, turn, rest(at))
 
         bound, changed = self.value(invariant, state), targets_of(block)
-        at = {**state, **self.chosen([(x, state[x].type) for x in state if x in changed])}
+        at = {**state, **self.state([(x, state[x].type) for x in state if x in changed])}
         claimed = self.value(invariant, at)
         return self.known(bound, claimed, met(int(copies[1]), at))
 
@@ -152,17 +152,24 @@ def targets_of(block):
     return {x for kind, *parts in statements_of(block) if kind in ("set", "draw", "toss", "call", "any") for x in parts[0]}
 
 
-def variables_of(procedure):
-    """The numbers of the variables that are declared: by the place of the declaration, and of an input or output by its name."""
-    places = [x for x, _ in procedure.inputs + procedure.outputs]
-    places += [statement.start for statement in statements_of(procedure.body or []) if statement[0] == "declare"]
-    return {place: number for number, place in enumerate(places)}
+def quantified(expression):
+    """The types of the quantifiers in the front of a clause."""
+    return [expression[1], *quantified(expression[3])] if expression[0] == "bind" else []
 
 
-def types_of(procedure):
-    """The types of the variables, by their numbers."""
-    declared = [statement[2] for statement in statements_of(procedure.body or []) if statement[0] == "declare"]
-    return [type_name for _, type_name in procedure.inputs + procedure.outputs] + declared
+def variables_of(file, procedure, has_calls):
+    """The types of the variables of a procedure by their numbers: its inputs and outputs, those of its quantifiers, those that it declares, and
+    those that its calls are encoded with; and the numbers of inputs and outputs by their names, and of declared ones by their places."""
+    heads, statements = procedure.inputs + procedure.outputs, list(statements_of(procedure.body or []))
+    types = [type_name for _, type_name in heads] + [type_name for post in procedure.posts for type_name in quantified(post)]
+    declared = [statement for statement in statements if statement[0] == "declare"]
+    numbers = {name: number for number, (name, _) in enumerate(heads)}
+    numbers.update((statement.start, number) for number, statement in enumerate(declared, len(types)))
+    types += [statement[2] for statement in declared]
+    for statement in statements if has_calls else []:
+        for called in [p for p in file if statement[0] == "call" and p.name == statement[2]][:1]:
+            types += [type_name for _, type_name in called.inputs + called.outputs]
+    return types, numbers
 
 
 def loops_of(block, scope):
@@ -179,23 +186,23 @@ def loops_of(block, scope):
 def goals(make, file, procedure):
     """The goals of a procedure with a body, in the order of docs/CERTIFICATES.md: the kind of each, the number of its loop or 0, and a
     function that gives its maker, whether its stated value has to be the greater one, and its stated and its found value.
-    `make(is_upper, is_ranking)` gives a maker, whose `visible` gives the state of a scope, a list of names, types and places."""
+    `make(is_upper, kind)` gives a maker, whose `visible` gives the state of a scope, a list of names, types and places."""
     heads = [(x, type_name, x) for x, type_name in procedure.inputs + procedure.outputs]
     loops = list(enumerate(loops_of(procedure.body, heads), 1))
 
     def main():
-        goal = make(procedure.is_upper, False)
+        goal = make(procedure.is_upper, "main")
         state = goal.visible(heads)
         stated = goal.clauses(procedure.pres, state)
         found = goal.worth(procedure.body, state, lambda after: goal.clauses(procedure.posts, after))
         return goal, procedure.is_upper, stated, found
 
     def at_most_1(clauses, scope):
-        goal = make(False, False)
+        goal = make(False, "")
         return goal, True, goal.one, goal.clauses(clauses, goal.visible(scope))
 
     def ranking(rules, guard, block, scope):
-        goal, (step, bound) = make(True, True), rules["ranking"]
+        goal, (step, bound) = make(True, "ranking"), rules["ranking"]
         state = goal.visible(scope)
         held = goal.sum(goal.value(step, state), goal.inner(block, state, lambda after: goal.value(bound, after)))
         return goal, True, goal.value(bound, state), goal.choice(goal.value(guard, state), held, goal.zero)

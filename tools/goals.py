@@ -5,7 +5,7 @@ from fractions import Fraction
 
 import conditions
 import heyvl
-from conditions import statements_of
+from conditions import blocks_of, statements_of, targets_of  # for the tools that read goals
 from smtlib import INFINITY, ONE, ZERO, Terms, Value, join
 
 sys.setrecursionlimit(100_000)
@@ -70,7 +70,7 @@ class Goal(conditions.Maker, Terms):
         return self.negated(self.is_ordered(b, a) if kind == "<" else self.is_ordered(a, b))
 
     def visible(self, scope):
-        return self.chosen([(x, type_name) for x, type_name, _ in scope])
+        return self.state([(x, type_name) for x, type_name, _ in scope])
 
     def forgotten(self, rest, after):
         """What is assumed away needs no terms."""
@@ -86,7 +86,7 @@ NAMES = {"main": "bound", "pre": "pre at most 1", "post": "post at most 1", "inv
 
 def goals(file, procedure, is_plain):
     """The goals of a procedure with a body: the name of each, as reports have it, and its lines."""
-    for kind, number, made in conditions.goals(lambda *kinds: Goal(file, kinds[0], is_plain, kinds[1]), file, procedure):
+    for kind, number, made in conditions.goals(lambda is_upper, kind: Goal(file, is_upper, is_plain, kind == "ranking"), file, procedure):
         goal, is_greater, stated, found = made()
         holds = goal.at_most(found, stated) if is_greater else goal.at_most(stated, found)
         yield NAMES[kind] % number if "%" in NAMES[kind] else NAMES[kind], goal.asked(holds)

@@ -5,6 +5,7 @@ A linear form is a dict that gives the number of each variable its factor, none 
 linear form, INFINITY or a bool."""
 import math
 import typing
+from fractions import Fraction
 
 import conditions
 
@@ -15,7 +16,7 @@ LAZY = ("ite", "[", "?", "&&", "||")
 
 
 class TooLarge(Exception):
-    """A goal that is not made, since it would be too large."""
+    """A goal, or a number of one, that is too large."""
 
 
 class Formula(typing.NamedTuple):
@@ -59,9 +60,9 @@ def join(a, b):
 class Maker(conditions.Maker):
     """Makes formulas as docs/LANGUAGE.md writes them. `types` has the types of the variables by their numbers."""
 
-    def __init__(self, file, procedure, is_upper, is_ranking):
-        super().__init__(file, is_upper, is_ranking)
-        self.numbers, self.types, self.ends = conditions.variables_of(procedure), conditions.types_of(procedure), 0
+    def __init__(self, file, procedure, is_upper, kind):
+        super().__init__(file, is_upper, kind == "ranking")
+        (self.types, self.numbers), self.ends = conditions.variables_of(file, procedure, kind == "main"), 0
 
     def node(self, kind, type_name, *parts):
         varies = kind not in ("[", "?") and any(part.varies for part in (parts[1:] if kind == "ite" else parts))
@@ -70,7 +71,7 @@ class Maker(conditions.Maker):
         return Formula(kind, type_name, parts, size, depth, varies and type_name != "Bool", is_linear)
 
     def number(self, fraction, type_name):
-        return known({CONSTANT: fraction} if fraction else ZERO)._replace(type=type_name)
+        return Formula("number", type_name, (fraction,))
 
     def truth(self, is_true):
         return known(is_true)._replace(type="Bool")
@@ -145,7 +146,7 @@ class Maker(conditions.Maker):
         if kind == "negative":
             return self.difference(self.zero._replace(type="Int"), a)
         if kind == "/":
-            return self.product(a, self.number(1 / b.parts[0][CONSTANT], "UReal"))
+            return self.product(a, self.number(1 / b.parts[0], "UReal"))
         if kind in ("!", "~"):
             return self.implied(a, self.zero) if kind == "!" else self.coimplied(a, self.infinity())
         return {"\\cap": self.least, "\\cup": self.greatest, "==>": self.implied, "<==": self.coimplied, "+": self.sum, "-": self.difference,
@@ -158,6 +159,8 @@ def combined(*multiples):
     for factor, form in multiples:
         for x, n in form.items():
             found[x] = found.get(x, 0) + factor * n
+    if any(abs(n.numerator) >= NUMBER or n.denominator >= NUMBER for n in found.values()):
+        raise TooLarge
     return {x: n for x, n in found.items() if n}
 
 
@@ -181,6 +184,8 @@ def read(node, bools):
     kind, parts = node.kind, list(node.parts)
     if kind == "value":
         return parts[0]
+    if kind == "number":
+        return combined((parts[0], {CONSTANT: 1}))
     if kind == "variable" and node.type == "Bool":
         return bools.get(parts[0], Question(parts[0], ZERO, False, node, node))
     if kind == "variable":
@@ -260,7 +265,7 @@ class Row(typing.NamedTuple):
             return self
         scale = math.lcm(*[n.denominator for n in scaled])
         divisor = math.gcd(*[int(n * scale) for n in scaled])
-        form = {x: n * scale / divisor for x, n in self.form.items()}
+        form = {x: Fraction(n) * scale / divisor for x, n in self.form.items()}
         if is_whole:
             constant = form.get(CONSTANT, 0)
             form = combined((1, {**form, CONSTANT: math.floor(constant) + 1 if self.is_strict else math.ceil(constant)}))
@@ -273,12 +278,13 @@ def is_contradiction(rows, multipliers):
     for number, multiplier in multipliers:
         if number >= len(rows):
             return False
-        total = combined((1, total), (multiplier, rows[number].form))
+        for x, n in rows[number].form.items():
+            total[x] = total.get(x, 0) + multiplier * n
+            if abs(total[x]) >= SUM:
+                return False
         is_strict = is_strict or rows[number].is_strict
-        if any(abs(n) >= SUM for n in total.values()):
-            return False
-    constant = total.get(CONSTANT, 0)
-    return is_constant(total) and (constant > 0 or constant == 0 and is_strict)
+    constant = total.pop(CONSTANT, 0)
+    return not any(total.values()) and (constant > 0 or constant == 0 and is_strict)
 
 
 def with_signs(rows, types):
@@ -288,6 +294,8 @@ def with_signs(rows, types):
 
 
 def rows_at(rows, types):
-    """The rows at a leaf, tightened; None where a number is too large."""
+    """The rows at a leaf, tightened."""
     found = [row.tightened(types) for row in with_signs(rows, types)]
-    return None if any(abs(n) >= NUMBER for row in found for n in row.form.values()) else found
+    if any(abs(n) >= NUMBER for row in found for n in row.form.values()):
+        raise TooLarge
+    return found
