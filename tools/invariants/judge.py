@@ -1,10 +1,11 @@
 """The program `caesar`, which alone says what holds: its answers on texts."""
 import os
 import re
-import subprocess
 import tempfile
 import time
 from fractions import Fraction
+
+import calls
 
 class Judge:
     """Runs a program, for at most `longest` seconds; `calls` counts its answers."""
@@ -13,20 +14,15 @@ class Judge:
         self.program, self.longest, self.calls = program, longest, 0
 
     def run(self, command, text, *arguments, seconds=None, script=None):
-        """The status and the output of a command on a text, and on a script behind the arguments; None and "time" where it takes too long."""
+        """The status and the output of a command on a text, and on a script behind the arguments; None where it takes too long."""
         self.calls += 1
         with tempfile.TemporaryDirectory() as folder:
-            files = {"file.heyvl": text, "file.script": script}
-            for name, content in files.items():
-                with open(os.path.join(folder, name), "w", encoding="utf-8", errors="surrogateescape", newline="") as file:
-                    file.write(content or "")
-            last = [] if script is None else ["file.script"]
-            try:
-                done = subprocess.run([self.program, command, "file.heyvl", *arguments, *last], cwd=folder, timeout=max(self.longest if seconds is None else seconds, 0.2),
-                                      capture_output=True, text=True, errors="surrogateescape")
-            except subprocess.TimeoutExpired:
-                return None, "unknown (bound): time"
-        return done.returncode, done.stdout
+            for name, content in (("file.heyvl", text), ("file.script", script or "")):
+                with open(os.path.join(folder, name), "wb") as file:
+                    file.write(calls.encoded(content))
+            words = [command, "file.heyvl", *arguments, *(["file.script"] if script else [])]
+            answer = calls.call(self.program, words, folder, max(self.longest if seconds is None else seconds, 0.2))
+        return answer if answer.status is not None else calls.Answer(None, "unknown (bound): time")
 
     def verdict(self, text, name, end, loop=None):
         """What `verify` says of a procedure, or of a loop with a ranking, until a time."""
@@ -47,7 +43,7 @@ def is_accepted(verdict):
 
 
 def state_of(verdict):
-    """The state in a verdict: the number of the loop that it is about, or 0; the values of names; and those of choices, which have marks."""
+    """The state in a verdict: the number of the loop that it is about, or 0; the values of names; and those of choices."""
     about = re.search(r"invariant of loop (\d+)", verdict)
     number, plain, marked = int(about[1]) if about else 0, {}, {}
     for part in verdict.split(": ", 1)[-1].split(", "):

@@ -2,6 +2,7 @@
 import copy
 import time
 
+import calls
 import heyvl
 from invariants.expressions import Unsupported, number, parts_of
 from invariants.judge import Judge, is_accepted
@@ -13,11 +14,7 @@ from invariants.source import Source, has_invariant, may_have_ranking
 from invariants.templates import Failed
 
 FOUND, BROKEN, NONE, FAULT = range(4)
-FINAL, MOST_REFUTED = 120, 3
-
-
-class Refused(Exception):
-    """The file has a fault, or does not hold what is asked of it."""
+FINAL, MOST_REFUTED = 20, 3
 
 
 def ranking_model(file, procedure, chosen):
@@ -50,32 +47,33 @@ class Proposer:
 
     def __init__(self, text, program, options, tell, show, say):
         self.judge, self.options, self.tell, self.show, self.say = Judge(program, max(options.seconds / 5, 1)), options, tell, show, say
-        status, output = self.judge.run("print", text)
+        self.statuses = {}
+        status, output = self.judge.run("print", text, seconds=FINAL)
         if status != 0:
-            raise Refused(output.strip() or f"{program} ended with status {status}")
+            self.refuse(output, status)
         procedures = heyvl.read(text)
         for name in options.procedures:
             if name not in [procedure.name for procedure in procedures]:
-                raise Refused(f"no such procedure: {name}")
+                self.refuse(f"no such procedure: {name}")
         words = ("invariant", "k_induction") * options.replace + ("ranking",) * (options.replace and options.ranking)
         self.source = Source(text, options.procedures or [procedure.name for procedure in procedures], words)
         self.refuse_fault(self.source.edits(only=""))
-        self.statuses = {}
+
+    def refuse(self, output, status=FAULT):
+        """Ends with what the program says of the file."""
+        raise calls.Refusal(f"{self.options.file}: {output.strip() or f'the program ended with status {status}'}", FAULT)
 
     def refuse_fault(self, edits):
-        """Raises the fault of the text with edits, at its place in the file."""
+        """Ends with the fault of the text with edits, at its place in the file."""
         text = self.source.edited(edits)
-        status, output = self.judge.run("verify", text, seconds=2)
-        if status in (0, 1, 2, None):
-            return
-        place, is_fault, fault = output.strip().partition(": ")
-        if not is_fault:
-            raise Refused(output.strip() or f"{self.judge.program} ended with status {status}")
-        line, column = map(int, place.split(":"))
-        start = sum(map(len, text.split("\n")[:line - 1])) + line - 1
-        within = len(text[start:].encode("utf-8", "surrogateescape")[:column - 1].decode("utf-8", "surrogateescape"))
-        at = heyvl.line_column(self.source.text, self.source.original(edits, start + within))
-        raise Refused(f"{at[0]}:{at[1]}: {fault}")
+        status, output = self.judge.run("verify", text)
+        found = calls.fault(output)
+        if found is None and status not in (0, 1, 2, None):
+            self.refuse(output, status)
+        if found:
+            start = sum(len(line) + 1 for line in text.split("\n")[:found[0] - 1])
+            within = len(calls.decoded(calls.encoded(text[start:])[:found[1] - 1]))
+            self.refuse(f"{self.source.line_column(self.source.original(edits, start + within))}: {found[2]}")
 
     def run(self):
         """The status, and the text with what was found, which `verify` accepts, or None."""
@@ -92,9 +90,9 @@ class Proposer:
         status = max(self.statuses.values(), key=[FOUND, NONE, BROKEN].index, default=FOUND)
         if status != FOUND:
             return status, None
-        text, self.judge.longest = self.source.edited(self.source.edits()), FINAL
+        text, self.judge.longest = self.source.edited(self.source.edits()), max(self.options.seconds, FINAL)
         for name in self.statuses:
-            verdict = self.judge.verdict(text, name, time.time() + FINAL)
+            verdict = self.judge.verdict(text, name, time.time() + self.judge.longest)
             if not is_accepted(verdict):
                 self.tell(f"{name}: {verdict}")
                 return NONE, None
@@ -162,14 +160,15 @@ class Proposer:
     def failed(self, procedure, search, what=""):
         """Says why nothing was found: an input that breaks the bound, as far as `refute` agrees, or what was tried."""
         name = procedure.name
-        for state, _, _ in search.suspects[:MOST_REFUTED] if procedure.is_upper else ():
-            for script in scripts(search.model, state):
-                status, output = self.judge.run("refute", self.source.edited(self.source.edits(only="")), name, script=script)
-                if status == 1:
-                    self.tell(f"{name}: the bound is false: {output.strip().partition(': ')[2]}, by the script\n{shortened(script, output)}")
-                    return BROKEN
-                if status is None:
-                    break
+        states = [state for state, _, _ in search.suspects[:MOST_REFUTED]] if procedure.is_upper else []
+        until = max(search.end, time.time() + search.seconds / 12)
+        for script in scripts(search.model, states):
+            text, seconds = self.source.edited(self.source.edits(only="")), min(self.judge.longest, until - time.time())
+            status, output = self.judge.run("refute", text, name, script=script, seconds=seconds) if seconds > 0 else (None, "")
+            if status == 1:
+                what = output.strip().partition(": ")[2]
+                self.tell(f"{name}: the bound is false: {what}, by the script\n{shortened(script, output)}")
+                return BROKEN
         for state, value, bound in search.suspects[:1]:
             shown_state = ", ".join(f"{x} = {str(value).lower()}" for x, value in state.items()) or "any state"
             side = "at least" if procedure.is_upper else "at most"

@@ -1,9 +1,9 @@
-"""What loops are worth by iterations alone, in floats: bounds from below in a coproc, from above in a weak proc. They show where a search is
-in vain; nothing is believed of them."""
+"""What loops are worth by bounded iteration, in floats: bounds from below in a coproc, from above in a proc with `@wlp`. They show where a
+search is in vain; nothing is believed of them."""
+import itertools
 import time
 
 from invariants.expressions import INFINITY
-from invariants.model import CONSTANT
 from invariants.samples import size
 
 MOST_STATES, MOST_STARTS, TINY = 1500, 24, 1e-9
@@ -12,8 +12,8 @@ MOST_STATES, MOST_STARTS, TINY = 1500, 24, 1e-9
 class Iterated:
     """The loops of a model as tables over the states that are reached from some first ones."""
 
-    def __init__(self, model, rows_of_starts, seconds):
-        """Takes functions that give what a start is worth."""
+    def __init__(self, model, starts, seconds):
+        """`starts` are functions that give what a start is worth, and `values` what it is then."""
         self.model, self.end, self.states = model, time.time() + seconds, []
         self.loops = [loop for loop in model.loops.values() if loop.rule is None]
         kept = [loop.template for loop in self.loops], model.candidate
@@ -21,7 +21,7 @@ class Iterated:
         for loop in self.loops:
             loop.template = lambda state, loop=loop: self.column(loop, state)
         try:
-            self.values = self.settled(rows_of_starts)
+            self.values = self.settled(starts)
         finally:
             for loop, template in zip(self.loops, kept[0]):
                 loop.template = template
@@ -37,10 +37,11 @@ class Iterated:
                 self.states.append((name, loop, state))
         return {name: 1}
 
-    def settled(self, rows_of_starts):
+    def settled(self, starts):
         """The values of the starts after as many iterations as there is time for."""
         model, rows, change = self.model, {}, 1.0
-        starts = [row() for row in rows_of_starts]
+        for start in starts:
+            start()
         at = 0
         while at < len(self.states) and time.time() < self.end:
             self.row(at, rows)
@@ -52,7 +53,10 @@ class Iterated:
                 value = float(model.number(rows[at] if at in rows else self.row(at, rows)))
                 change = max(change, abs(value - model.candidate[name]) / (1 + abs(value)) if value < INFINITY else 0)
                 model.candidate[name] = value
-        return [float(model.number(row() if model.has_choice else start)) for row, start in zip(rows_of_starts, starts)]
+        model.has_choice = False
+        values = [float(model.number(start())) for start in starts]
+        model.has_choice = model.has_choice or len(rows) < len(self.states)
+        return values
 
     def row(self, at, rows):
         """What a state is worth by the others; kept where no scheduler chooses."""
@@ -86,10 +90,8 @@ def broken(model, seconds):
             if sign * (value - float(model.pre(state))) > 1e-7 * (1 + abs(float(model.pre(state))))]
 
 
-def scripts(model, state):
-    """Scripts for `refute` that start in a state: with no choices, and with some."""
-    sets = "".join(f"set {name} {str(value).lower()}\n" for name, value in state.items())
-    decisions = [""] + [f"decide {value}\n" * 200 for value in ("right", "true", "1", "7")] if model.has_choice or model.extra else [""]
-    for steps in (100, 1000, 10000):
-        for decision in decisions:
-            yield f"steps {steps}\n{sets}{decision}"
+def scripts(model, states):
+    """Scripts for `refute` that start in these states: without choices, and with some; those of few steps first."""
+    decisions = [""] + [f"decide {value}\n" * 200 for value in ("right", "true", "1", "7")] if model.has_choice else [""]
+    for steps, state, decision in itertools.product((100, 1000, 10000), states, decisions):
+        yield f"steps {steps}\n" + "".join(f"set {name} {str(value).lower()}\n" for name, value in state.items()) + decision

@@ -107,7 +107,8 @@ class Samples:
         return found
 
     def explore(self, until):
-        """Collects states that runs come by until a time: first in any order, then those in which a variable is largest, which shows what is finite."""
+        """Collects states that runs meet, until a time: first in any order, then those in which a variable is largest, which shows whether
+        it has few values."""
         queues, chance = {loop.number: [] for loop in self.loops}, self.random
         most, is_cut = [1500], [False]
 
@@ -131,7 +132,8 @@ class Samples:
                     queue[at], queue[-1] = queue[-1], queue[at]
                 loop, state = queue.pop()
                 loop.turn(state)
-            before, most[0] = {(loop.number, name): {s[name] for s in loop.met.values()} for loop in self.loops for name in loop.scope}, 1900
+            before = {(loop.number, name): {s[name] for s in loop.met.values()} for loop in self.loops for name in loop.scope}
+            most[0] = 1900
             for loop, name in [(loop, name) for loop in self.loops for name in loop.scope if loop.types[name] in NUMBERS]:
                 self.push(loop, name, queues[loop.number], until)
         is_done = not any(queues.values()) and not is_cut[0]

@@ -8,7 +8,7 @@ import typing
 from fractions import Fraction
 
 from invariants.judge import is_accepted, state_of
-from invariants.model import CONSTANT, Model, mixed
+from invariants.model import CONSTANT, mixed
 from invariants.refuting import broken, exact_total
 from invariants.samples import FAR, Collecting, Samples, is_number, size
 from invariants.shapes import Shapes
@@ -303,7 +303,9 @@ class Search:
         if None in values:
             raise Failed("infinite at an input")
         total = mixed([(1, value) for value in values])
-        return [mixed([(1, {self.goal: 1}), (-1, total)] if self.model.is_upper else [(1, {self.goal: 1, CONSTANT: -len(values)}), (1, total)])]
+        if self.model.is_upper:
+            return [mixed([(1, {self.goal: 1}), (-1, total)])]
+        return [mixed([(1, {self.goal: 1, CONSTANT: -len(values)}), (1, total)])]
 
     def rows_at(self, loop, state):
         """That an iteration from a state keeps to the template, that its value is no less than 0, and in a weak proc no more than 1."""

@@ -5,13 +5,13 @@ from fractions import Fraction
 
 import goals
 from invariants.expressions import (
-    COMPARISONS, INFINITY, Unsupported, comparisons_of, compiled, leaves_of, names_of, number, parts_of, renamed, shown, variable)
+    COMPARISONS, Unsupported, comparisons_of, compiled, leaves_of, names_of, number, parts_of, renamed, shown, variable)
 from invariants.samples import copies_of, expressions_of
 from invariants.templates import LARGE, Feature, Shape, Table
 
 COSTS = {"whole": -9, "none": 0, "bool": 0, "finite": 1, "constants": 3}
-STEPS = [("none", 0), ("bool", 0), ("finite", 0), ("bool", 1), ("finite", 1), ("constants", 0), ("bool", 2), ("finite", 2), ("constants", 1),
-         ("constants", 2), ("bool", 3), ("finite", 3), ("bool", 4)]
+STEPS = [("none", 0), ("bool", 0), ("finite", 0), ("bool", 1), ("finite", 1), ("constants", 0), ("bool", 2), ("finite", 2),
+         ("constants", 1), ("constants", 2), ("bool", 3), ("finite", 3), ("bool", 4)]
 MOST_CONDITIONS, MOST_FACTS, MOST_EXTRAS = 14, 8, 8
 
 
@@ -35,8 +35,8 @@ class Shapes:
         seen = set()
         for step in plan():
             shapes = [self.shape(loop, *step) for loop in self.loops]
-            key = str([(s.is_whole, s.tables, [c[0] for c in s.conditions], [f.text for f in s.features], [f[0] for f in s.facts], s.is_closed)
-                       for s in shapes])
+            key = str([(shape.is_whole, shape.tables, [text for text, _ in shape.conditions], [feature.text for feature in shape.features],
+                        [text for text, _ in shape.facts], shape.is_closed) for shape in shapes])
             if key not in seen:
                 seen.add(key)
                 yield step, shapes

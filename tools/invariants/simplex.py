@@ -6,7 +6,7 @@ from fractions import Fraction
 
 
 class LinearProgram:
-    """A dictionary of rows: a basic variable has a row (value, {other variable: factor}). Columns are named 0, 1, .. and slacks -1, -2, .."""
+    """Rows: a basic variable has a row (value, {other variable: factor}). Columns are named 0, 1, .. and slacks -1, -2, .."""
 
     def __init__(self):
         self.costs, self.rows, self.count, self.pivots = {}, {}, 0, 0

@@ -1,12 +1,16 @@
-"""Shorter texts for what was found: conditions, tables, facts and summands are left out while `verify` goes on to accept."""
+"""Shorter texts for what was found: conditions, tables, facts and summands are left out, and fractions are replaced by simpler ones, while
+`verify` goes on to accept."""
+import math
 import time
+from fractions import Fraction
 
 import heyvl
-from invariants.expressions import shown
+from invariants.expressions import number, shown
 from invariants.judge import is_accepted
 from invariants.templates import Failed
 
-SHARE, MOST_VERDICTS, MOST_TRIES, SHORT = 1 / 12, 4, 60, 12
+SHARE, MOST_VERDICTS, MOST_TRIES, SHORT, MOST_NEAR = 1 / 12, 4, 60, 12, 3
+DENOMINATORS = (1, 2, 3, 4, 5, 6, 8, 9, 10, 12, 15, 16, 20, 25, 50, 100)
 
 
 def shorter(expression):
@@ -17,6 +21,21 @@ def shorter(expression):
     for at, part in enumerate(parts):
         for other in shorter(part) if isinstance(part, tuple) else ():
             yield (kind, *parts[:at], other, *parts[at + 1:])
+    if kind == "/":
+        yield from simpler(parts[0], parts[1][1])
+
+
+def simpler(dividend, divisor):
+    """Fractions near `n/divisor`, or near this multiple of a summand, with shorter numbers; the nearest first."""
+    factor, atom = (dividend[1][1], dividend[2]) if dividend[0] == "*" and dividend[1][0] == "number" else (dividend[1], None)
+    if atom is None and dividend[0] != "number":
+        return
+    value = factor / divisor
+    near = {Fraction(side(value * small), small) for small in DENOMINATORS for side in (math.floor, math.ceil)}
+    near = [other for other in near if 0 < other and len(str(other)) < len(f"{factor}/{divisor}")]
+    for other in sorted(near, key=lambda other: abs(other - value))[:MOST_NEAR]:
+        up = number(other.numerator) if atom is None else atom if other.numerator == 1 else ("*", number(other.numerator), atom)
+        yield up if other.denominator == 1 else ("/", up, number(other.denominator))
 
 
 class Simplifier:
@@ -49,7 +68,7 @@ class Simplifier:
                     if tries > MOST_TRIES or time.time() > until:
                         return texts
                     changed = {**texts, at: shown(other)}
-                    if is_accepted(self.search.verdict_on(changed)):
+                    if len(changed[at]) < len(texts[at]) and is_accepted(self.search.verdict_on(changed)):
                         texts, is_cut = changed, True
                         break
         return texts

@@ -24,8 +24,8 @@ def may_have_ranking(loop):
 
 
 class Source:
-    """A file as text and as procedures. `rules` holds the texts of rules that were found, by the places of their loops, and `bounds` those of
-    pre clauses, by the names of their procedures; of the procedures in `replaced` the rules of these words are `removed`."""
+    """A file as text and as procedures. `rules` holds the texts of rules that were found, by the places of their loops, and `bounds`
+    those of pre clauses, by the names of their procedures; of the procedures in `replaced` the rules of these words are `removed`."""
 
     def __init__(self, text, replaced=(), words=()):
         self.text, self.file, self.rules, self.bounds, self.removed = text, heyvl.read(text), {}, {}, []
@@ -66,8 +66,8 @@ class Source:
             procedure.pres[:] = [heyvl.Reader(bound).expression()]
 
     def edits(self, rules=None, bounds=None, only=None):
-        """The edits that put rules and bounds into the file. With `only`, the name of a procedure, the other bodies are blank, and what holds
-        always stands where nothing was found."""
+        """The edits that put rules and bounds into the file. With `only`, the name of a procedure, the other bodies are blank, and what
+        always holds is written where nothing was found."""
         rules, bounds, found = {**self.rules, **(rules or {})}, {**self.bounds, **(bounds or {})}, list(self.removed)
         for procedure in self.file:
             nothing = "\\infty" if procedure.is_upper else "0"

@@ -2,8 +2,8 @@
 import typing
 from fractions import Fraction
 
-from invariants.expressions import INFINITY, shown
-from invariants.model import CONSTANT, of_number
+from invariants.expressions import shown
+from invariants.model import of_number
 
 MOST_CELLS, LARGE = 400, 200
 
@@ -13,7 +13,7 @@ class Failed(Exception):
 
 
 class Feature(typing.NamedTuple):
-    """A summand: its text alone and as a factor (None for the constant), its value in a state, its cost, and the table variable that it is."""
+    """A summand: its text alone and as a factor (None for the constant), its value in a state, its cost, and its table variable."""
     text: object
     factor_text: object
     value: object
