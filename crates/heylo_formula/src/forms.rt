@@ -5,7 +5,6 @@ use heyvl_num::{Ext, Frac};
 use heyvl_places::Span;
 
 /// A formula of HeyLo: a tree that has a number, or infinity, as its value in each state. Variables go by number.
-#[derive(Drop)]
 #[cycle(forms)]
 pub enum Form {
     Const(Ext),
@@ -40,8 +39,32 @@ pub enum Form {
     Bind(bool, u32, u32, Ty, Box<Form>),
 }
 
+impl Drop for Form {
+    #[cycle(forms_drop)]
+    fn drop(self) {
+        match self {
+            Form::Const(_) => {}
+            Form::Var(_) => {}
+            Form::Sum(_, _) => {}
+            Form::Diff(_, _) => {}
+            Form::Cut(_, _) => {}
+            Form::Scale(_, _) => {}
+            Form::Product(_, _, _) => {}
+            Form::Min(_, _) => {}
+            Form::Max(_, _) => {}
+            Form::Imply(_, _) => {}
+            Form::CoImply(_, _) => {}
+            Form::Validate(_) => {}
+            Form::CoValidate(_) => {}
+            Form::Embed(_) => {}
+            Form::Iverson(_) => {}
+            Form::Select(_, _, _) => {}
+            Form::Bind(_, _, _, _, _) => {}
+        }
+    }
+}
+
 /// A condition: a tree that holds in a state, or doesn't.
-#[derive(Drop)]
 #[cycle(forms)]
 pub enum Cond {
     Const(bool),
@@ -58,4 +81,22 @@ pub enum Cond {
     EqNum(Box<Form>, Box<Form>),
     /// The second condition where the first holds, else the third.
     Ite(Box<Cond>, Box<Cond>, Box<Cond>),
+}
+
+impl Drop for Cond {
+    #[cycle(forms_drop)]
+    fn drop(self) {
+        match self {
+            Cond::Const(_) => {}
+            Cond::Var(_) => {}
+            Cond::Not(_) => {}
+            Cond::And(_, _) => {}
+            Cond::Or(_, _) => {}
+            Cond::Same(_, _) => {}
+            Cond::Le(_, _) => {}
+            Cond::Lt(_, _) => {}
+            Cond::EqNum(_, _) => {}
+            Cond::Ite(_, _, _) => {}
+        }
+    }
 }

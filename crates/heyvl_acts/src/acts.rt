@@ -6,7 +6,6 @@ use heyvl_places::{CheckKind, Span};
 
 /// One act. Variables, procedures and loops go by number; each act has its statement's place.
 #[cycle(acts)]
-#[derive(Drop)]
 pub enum Act {
     /// The variable takes the term's value.
     Set(u32, Term, Span),
@@ -33,9 +32,27 @@ pub enum Act {
     Call(Vec<u32>, u32, Vec<Term>, Span),
 }
 
+impl Drop for Act {
+    #[cycle(acts_drop)]
+    fn drop(self) {
+        match self {
+            Act::Set(_, _, _) => {}
+            Act::Draw(_, _, _) => {}
+            Act::Toss(_, _, _) => {}
+            Act::Any(_, _, _, _) => {}
+            Act::Reward(_, _) => {}
+            Act::If(_, _, _) => {}
+            Act::Pick(_, _, _, _) => {}
+            Act::Check(_, _, _) => {}
+            Act::Validate(_, _) => {}
+            Act::Loop(_) => {}
+            Act::Call(_, _, _, _) => {}
+        }
+    }
+}
+
 /// A loop.
 #[cycle(acts)]
-#[derive(Drop)]
 pub struct LoopAct {
     /// From 1, in the order of the text, an outer loop before those in its body.
     pub number: u32,
@@ -53,4 +70,11 @@ pub struct LoopAct {
     pub scope: Vec<u32>,
     /// From the first of the loop's rules on.
     pub span: Span,
+}
+
+impl Drop for LoopAct {
+    #[cycle(acts_drop)]
+    fn drop(self) {
+        let LoopAct { number: _, k: _, inv: _, guard: _, body: _, rank: _, scope: _, span: _ } = self;
+    }
 }

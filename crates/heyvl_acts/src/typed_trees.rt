@@ -5,14 +5,18 @@ use heylo_formula::{Form, Ty};
 use heyvl_places::{Name, Span};
 
 /// A file without a fault, with numbers in place of names.
-#[derive(Drop)]
 pub struct Typed {
     /// The procedures, in the order of the text.
     pub procs: Vec<TProc>,
 }
 
+impl Drop for Typed {
+    fn drop(self) {
+        let Typed { procs: _ } = self;
+    }
+}
+
 /// A procedure.
-#[derive(Drop)]
 pub struct TProc {
     pub name: Name,
     /// Whether it is a coproc, whose pre is an upper bound.
@@ -38,9 +42,20 @@ pub struct TProc {
     pub span: Span,
 }
 
+impl Drop for TProc {
+    fn drop(self) {
+        let TProc { name: _, co: _, weak: _, vars: _, inputs: _, outputs: _, pre: _, post: _, body: _, loops: _, span: _ } = self;
+    }
+}
+
 /// A variable.
-#[derive(Drop)]
 pub struct VarInfo {
     pub name: Name,
     pub ty: Ty,
+}
+
+impl Drop for VarInfo {
+    fn drop(self) {
+        let VarInfo { name: _, ty: _ } = self;
+    }
 }

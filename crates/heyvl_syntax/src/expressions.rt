@@ -9,7 +9,6 @@ use std::alloc::{AllocError, Global};
 
 /// An expression, with its parentheses. Each node has its place: that of the operator for an operator between two
 /// operands, and else from the first byte of the node to the end of its last token.
-#[derive(Drop)]
 pub enum Expr {
     /// A number literal.
     Number(Lit, Span),
@@ -33,6 +32,24 @@ pub enum Expr {
     Choice(Box<Expr>, Box<Expr>, Box<Expr>, Span),
     /// `sup x: T. a` where the flag is true, else `inf x: T. a`.
     Bound(bool, Name, TypeName, Box<Expr>, Span),
+}
+
+impl Drop for Expr {
+    fn drop(self) {
+        match self {
+            Expr::Number(_, _) => {}
+            Expr::Truth(_, _) => {}
+            Expr::Infinity(_) => {}
+            Expr::Name(_, _) => {}
+            Expr::Group(_, _) => {}
+            Expr::Bracket(_, _) => {}
+            Expr::Embed(_, _) => {}
+            Expr::Unary(_, _, _) => {}
+            Expr::Binary(_, _, _, _) => {}
+            Expr::Choice(_, _, _, _) => {}
+            Expr::Bound(_, _, _, _, _) => {}
+        }
+    }
 }
 
 impl Expr {

@@ -19,15 +19,19 @@ pub enum Note {
 }
 
 /// An input or an output.
-#[derive(Drop)]
 pub struct Param {
     pub name: Name,
     pub ty: TypeName,
     pub span: Span,
 }
 
+impl Drop for Param {
+    fn drop(self) {
+        let Param { name: _, ty: _, span: _ } = self;
+    }
+}
+
 /// A procedure: a coproc where `co` is true, else a proc. Its place begins at its note, where it has one.
-#[derive(Drop)]
 pub struct Proc {
     pub co: bool,
     pub note: Option<Note>,
@@ -40,10 +44,21 @@ pub struct Proc {
     pub span: Span,
 }
 
+impl Drop for Proc {
+    fn drop(self) {
+        let Proc { co: _, note: _, name: _, inputs: _, outputs: _, pres: _, posts: _, body: _, span: _ } = self;
+    }
+}
+
 /// The procedures of a file.
-#[derive(Drop)]
 pub struct File {
     pub procs: Vec<Proc>,
+}
+
+impl Drop for File {
+    fn drop(self) {
+        let File { procs: _ } = self;
+    }
 }
 
 impl Param {

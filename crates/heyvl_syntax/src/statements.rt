@@ -8,7 +8,6 @@ use heyvl_places::{CheckKind, Name, Span};
 use std::alloc::{AllocError, Global};
 
 /// What stands before a loop.
-#[derive(Drop)]
 pub enum Rule {
     /// `@invariant(i)`
     Invariant(Expr, Span),
@@ -18,8 +17,17 @@ pub enum Rule {
     Ranking(Expr, Expr, Span),
 }
 
+impl Drop for Rule {
+    fn drop(self) {
+        match self {
+            Rule::Invariant(_, _) => {}
+            Rule::KInduction(_, _, _) => {}
+            Rule::Ranking(_, _, _) => {}
+        }
+    }
+}
+
 /// What a variable is given.
-#[derive(Drop)]
 pub enum Right {
     /// The value of an expression.
     Plain(Expr),
@@ -33,6 +41,18 @@ pub enum Right {
     Call(Name, Vec<Expr>),
 }
 
+impl Drop for Right {
+    fn drop(self) {
+        match self {
+            Right::Plain(_) => {}
+            Right::Flip(_) => {}
+            Right::Unif(_, _) => {}
+            Right::Choose(_) => {}
+            Right::Call(_, _) => {}
+        }
+    }
+}
+
 /// A guard and what runs where it is the first that holds.
 #[cycle(statements)]
 #[derive(Drop)]
@@ -43,7 +63,6 @@ pub struct Arm {
 
 /// A statement. Its place goes from its first byte, for a loop that of its first rule, to the end of its last token.
 #[cycle(statements)]
-#[derive(Drop)]
 pub enum Stmt {
     /// `var x: T`, with what the variable is given where that is there.
     Var(Name, TypeName, Option<Right>, Span),
@@ -63,6 +82,22 @@ pub enum Stmt {
     Pick(bool, Vec<Stmt>, Vec<Stmt>, Span),
     /// The rules of a loop, its guard and its body.
     While(Vec<Rule>, Expr, Vec<Stmt>, Span),
+}
+
+impl Drop for Stmt {
+    fn drop(self) {
+        match self {
+            Stmt::Var(_, _, _, _) => {}
+            Stmt::Assign(_, _, _) => {}
+            Stmt::Check(_, _, _) => {}
+            Stmt::Validate(_, _) => {}
+            Stmt::Havoc(_, _, _) => {}
+            Stmt::Reward(_, _) => {}
+            Stmt::If(_, _, _) => {}
+            Stmt::Pick(_, _, _, _) => {}
+            Stmt::While(_, _, _, _) => {}
+        }
+    }
 }
 
 impl Rule {
