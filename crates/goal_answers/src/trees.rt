@@ -35,7 +35,11 @@ pub struct GoalCert {
 
 impl Drop for GoalCert {
     fn drop(self) {
-        let GoalCert { proc: _, id: _, tree: _ } = self;
+        let GoalCert {
+            proc: _,
+            id: _,
+            tree: _,
+        } = self;
     }
 }
 

@@ -75,6 +75,15 @@ pub struct LoopAct {
 impl Drop for LoopAct {
     #[cycle(acts_drop)]
     fn drop(self) {
-        let LoopAct { number: _, k: _, inv: _, guard: _, body: _, rank: _, scope: _, span: _ } = self;
+        let LoopAct {
+            number: _,
+            k: _,
+            inv: _,
+            guard: _,
+            body: _,
+            rank: _,
+            scope: _,
+            span: _,
+        } = self;
     }
 }

@@ -44,7 +44,19 @@ pub struct TProc {
 
 impl Drop for TProc {
     fn drop(self) {
-        let TProc { name: _, co: _, weak: _, vars: _, inputs: _, outputs: _, pre: _, post: _, body: _, loops: _, span: _ } = self;
+        let TProc {
+            name: _,
+            co: _,
+            weak: _,
+            vars: _,
+            inputs: _,
+            outputs: _,
+            pre: _,
+            post: _,
+            body: _,
+            loops: _,
+            span: _,
+        } = self;
     }
 }
 

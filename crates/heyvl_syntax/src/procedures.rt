@@ -27,7 +27,11 @@ pub struct Param {
 
 impl Drop for Param {
     fn drop(self) {
-        let Param { name: _, ty: _, span: _ } = self;
+        let Param {
+            name: _,
+            ty: _,
+            span: _,
+        } = self;
     }
 }
 
@@ -46,7 +50,17 @@ pub struct Proc {
 
 impl Drop for Proc {
     fn drop(self) {
-        let Proc { co: _, note: _, name: _, inputs: _, outputs: _, pres: _, posts: _, body: _, span: _ } = self;
+        let Proc {
+            co: _,
+            note: _,
+            name: _,
+            inputs: _,
+            outputs: _,
+            pres: _,
+            posts: _,
+            body: _,
+            span: _,
+        } = self;
     }
 }
 
