@@ -26,6 +26,7 @@ use resolved_laws::resolved_files_meet_the_rules;
 use run_unroller::unrolled_sums_are_meant;
 use spelled_files::program_files_have_sums;
 use std::alloc::{AllocError, Global};
+use tool_laws::broken_bounds_are_never_verified;
 
 /// The most bytes that a file may have.
 pub const FILE_LIMIT: usize = 1_048_576;
@@ -65,6 +66,7 @@ pub fn run_tool<F: Source, K: Sink>(
     resolved_files_meet_the_rules();
     unrolled_sums_are_meant();
     program_files_have_sums();
+    broken_bounds_are_never_verified();
     match response_to(alloc, words, source) {
         Ok(response) => deliver(response, sink),
         Err(_) => Outcome {

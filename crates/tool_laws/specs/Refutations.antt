@@ -1,4 +1,6 @@
 -- What a user may rely on where `refute` says that a bound is violated.
+use Rattle.goal_answers.specs.declared.named_goals.NamedGoal.{NamedGoal}
+use Rattle.goal_answers.specs.declared.trees.GoalCert.{GoalCert}
 use Rattle.heylo_formula.specs.declared.values.Val.{Val}
 use Rattle.heyvl_acts.specs.Acts.{procedure_at}
 use Rattle.heyvl_num.specs.Value.{Value}
@@ -16,6 +18,7 @@ use Rattle.static_rules.specs.Files.{first_fault, resolved}
 use Rattle.refute_runs.specs.ScriptedSums.{AreOfRuns}
 use Rattle.refute_runs.specs.Violations.{IsViolation}
 use Rattle.run_laws.specs.Bare.{bare_procedures}
+use Rattle.run_machine.specs.Bound.{Bound}
 use Rattle.run_machine.specs.ConfigConditions.{ReachesPrograms}
 use Rattle.run_script.specs.Scripts.{Script, Spells}
 use Rattle.run_script.specs.Starts.{known_of}
@@ -23,14 +26,24 @@ use Rattle.std.specs.Prelude.{List, None, Some, ◌≡◌, ◌≤◌, ℕ}
 use Rattle.verdict_report.specs.declared.answers.Answer.{Answer}
 use Rattle.verdict_report.specs.declared.answers.Verdict.TheVariants.{Verified}
 use Rattle.verdict_report.specs.VerdictsOn.{IsVerdictOn}
-use Rattle.verify_core.specs.Headline.{IsHeadline}
+use Rattle.verify_core.specs.AnsweredProcedures.{AreAnswered}
+use Rattle.verify_core.specs.CheckedAnswers.{IsCheckedFile}
+
+-- No answers on this file say that the procedure is verified: neither answers by decisions of its goals nor answers by certificates.
+pub record IsNeverVerified (file : List Procedure) (number : ℕ) : Type 0 where
+  pub decided : (answers : List Answer) (made : List NamedGoal) (certs : List GoalCert) → AreAnswered (resolved file) answers made certs → IsVerdictOn answers number Verified → ⊥
+  pub checked : (certs : List GoalCert) (answers : List Answer) → IsCheckedFile (resolved file) certs answers → IsVerdictOn answers number Verified → ⊥
+
+-- A procedure without its bound, in a file without a fault, is never verified.
+abbrev pub BrokenBoundsAreNeverVerified : Type 0
+BrokenBoundsAreNeverVerified = (file : List Procedure) (number : ℕ) → first_fault file ≡ None → (Bound (resolved file) number → ⊥) → IsNeverVerified file number
 
 -- A violation was written, and nothing else, and it is one of the runs. The bytes that were read, of the file and of the script, are those
 -- that the source holds where it tells them. They spell a file without a fault, in which a procedure has the name that was asked for, and it
 -- and all that it reaches are programs; and a script for it. From the state in which the runs start, which is what the script sets and else
 -- what the answers show, under the script's scheduler, the sum of reward and post over the runs of so many steps is above the pre, with fewer
--- steps it isn't, and no bound holds of the procedure. So no answers on a file that differs in the rules of its loops and in places
--- alone, of which the promises of the headline are kept, say that it is verified.
+-- steps it isn't. So no bound holds of the procedure, neither in this file nor in one that differs from it in the rules of its loops and
+-- in places alone, and no answers on such a file say that it is verified.
 pub record IsRefutedFrom (name procedure script : List ℕ) (made : Call) (done : Writing) (outcome : Outcome) : Type 0 where
   pub bytes : List ℕ
   pub text : List ℕ
@@ -51,7 +64,8 @@ pub record IsRefutedFrom (name procedure script : List ℕ) (made : Call) (done 
   pub sum : Value
   pub bound : Value
   pub numbers : AreOfRuns (resolved file) number start said.decisions step sum bound
-  pub unverified : (other : List Procedure) (answers : List Answer) → bare_procedures (resolved file) ≡ bare_procedures (resolved other) → IsHeadline (resolved other) answers → IsVerdictOn answers number Verified → ⊥
+  pub no_bound : (other : List Procedure) → bare_procedures (resolved file) ≡ bare_procedures (resolved other) → Bound (resolved other) number → ⊥
+  pub unverified : (other : List Procedure) → bare_procedures (resolved file) ≡ bare_procedures (resolved other) → first_fault other ≡ None → IsNeverVerified other number
   pub written : IsWritten (violated (procedure_at (resolved file) number).name step sum bound outcome.answers.items) done outcome
 
 -- Where the status of `refute` is 1, it wrote a violation, of the bytes that were read.

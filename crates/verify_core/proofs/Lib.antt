@@ -25,6 +25,7 @@ mod StandingActs
 mod StandingRankings
 mod PlacedAnswers
 mod WholeFiles
+mod PromisedAnswers
 mod CertOrder
 mod ServedGoals
 mod AcceptedProofs

@@ -12,5 +12,6 @@ pub mod FreshVariables
 pub mod TossProducts
 pub mod CertifiedGoals
 pub mod CheckedAnswers
+pub mod PromisedAnswers
 pub mod CheckedProofs
 pub mod internal

@@ -3,11 +3,14 @@
 ghost use Rattle.verify_core.specs.CheckedProofs.{ProofsAreAccepted, ProvedGoalsAreAccepted, ProvedRankingsAreAccepted};
 ghost use Rattle.verify_core.specs.FreshVariables as new;
 ghost use Rattle.verify_core.specs.GoalLaws.{MadeGoalsSayBounds};
+ghost use Rattle.verify_core.specs.PromisedAnswers.{AnswersKeepPromises, CheckedAnswersKeepPromises};
 ghost use Rattle.verify_core.specs.TossProducts.{TossProductsAreLinear};
 
-use farkas_check::certificates_are_told_apart;
+use bounded_runs::{broken_goals_break_bounds, shown_bounds_hold};
+use farkas_check::{certificates_are_told_apart, certified_goals_hold};
 use loop_encodings::{encodings_are_over_their_variables, main_goals_lack_fresh_variables};
-use region_split::walk_trees_certify;
+use ranking_rule::{ranking_goals_say_rankings, rankings_bound_turns};
+use region_split::{decisions_tell, walk_trees_certify};
 use vp_generator::{generated_form_means_acts, prenexed_goals_speak_of_choices};
 
 /// A goal that is made holds exactly where the goal of the bound holds by its definition.
@@ -42,3 +45,20 @@ pub fn proved_goals_are_accepted()
 pub fn toss_products_are_linear()
     ensures { TossProductsAreLinear }
 {}
+
+/// Answers by decisions of a file's goals, and answers by certificates of them, keep the promises of the headline, whatever made them.
+pub fn answers_keep_promises()
+    ensures decided { AnswersKeepPromises }
+    ensures checked { CheckedAnswersKeepPromises }
+{
+    made_goals_say_bounds();
+    decisions_tell();
+    certified_goals_hold();
+    shown_bounds_hold();
+    broken_goals_break_bounds();
+    encodings_are_over_their_variables();
+    generated_form_means_acts();
+    prenexed_goals_speak_of_choices();
+    ranking_goals_say_rankings();
+    rankings_bound_turns();
+}

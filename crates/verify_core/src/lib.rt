@@ -16,8 +16,8 @@ mod verifier;
 mod whole;
 
 pub use laws::{
-    made_goals_lack_fresh_variables, made_goals_say_bounds, proved_goals_are_accepted,
-    toss_products_are_linear,
+    answers_keep_promises, made_goals_lack_fresh_variables, made_goals_say_bounds,
+    proved_goals_are_accepted, toss_products_are_linear,
 };
 pub use procedure_goals::goals;
 pub use verifier::{check_all, verify};

@@ -8,7 +8,7 @@ use Rattle.tool_laws.proofs.LowStatuses.{SaidTyped, came_low, status_is, written
 use Rattle.tool_laws.specs.Calls.{Call}
 use Rattle.command_rules.specs.Messages.{Reply}
 use Rattle.tool_laws.specs.Outcomes.{HasCause, IsDelivered, IsWritten, Writing}
-use Rattle.tool_laws.specs.Refutations.{IsRefutedFrom, ViolationsAreMeant}
+use Rattle.tool_laws.specs.Refutations.{BrokenBoundsAreNeverVerified, IsRefutedFrom, ViolationsAreMeant}
 use Rattle.command_rules.specs.RunStarts.{known_at}
 use Rattle.command_rules.specs.commands.Refute.IsRefuteOf.{by_name, by_program, by_script, by_search, by_shape}
 use Rattle.command_rules.specs.commands.Refute.{IsRefuteOf, refute_start, refuted_reply, violated}
@@ -57,13 +57,13 @@ violated_by ps p s start said reply (Violation step sum bound) is violation numb
 violated_by ps p s start said reply (Within sum bound) is violation numbers e one = let no : 0 ≡ 1 = status_is reply _ 1 e one in absurd (omega (arith, no))
 violated_by ps p s start said reply (Stopped step stopped) is violation numbers e one = absurd (stopped_status stopped (status_is reply _ 1 e one))
 
-refuted_by : (name procedure script : List ℕ) (made : Call) (done : Writing) (outcome : Outcome) (reply : Reply) → reply.status ≡ 1 → IsWritten reply done outcome → outcome.answers.items ≡ reply.answers
+refuted_by : BrokenBoundsAreNeverVerified → (name procedure script : List ℕ) (made : Call) (done : Writing) (outcome : Outcome) (reply : Reply) → reply.status ≡ 1 → IsWritten reply done outcome → outcome.answers.items ≡ reply.answers
     → (f : SaidTyped (λ bytes text. IsRefuteOf procedure text) (Files.two name script) made reply) → IsRefuteOf procedure f.text (resolved f.file) reply → IsRefutedFrom name procedure script made done outcome
-refuted_by name procedure script made done outcome reply one written same f (by_script line fault e) = let no : 3 ≡ 1 = status_is reply _ 1 e one in absurd (omega (arith, no))
-refuted_by name procedure script made done outcome reply one written same f (by_name s read none e) = let no : 3 ≡ 1 = status_is reply _ 1 e one in absurd (omega (arith, no))
-refuted_by name procedure script made done outcome reply one written same f (by_shape s read p named upper e) = let no : 3 ≡ 1 = status_is reply _ 1 e one in absurd (omega (arith, no))
-refuted_by name procedure script made done outcome reply one written same f (by_program s read p named upper q first e) = let no : 3 ≡ 1 = status_is reply _ 1 e one in absurd (omega (arith, no))
-refuted_by name procedure script made done outcome reply one written same f (by_search s read p named upper programs tells) =
+refuted_by never name procedure script made done outcome reply one written same f (by_script line fault e) = let no : 3 ≡ 1 = status_is reply _ 1 e one in absurd (omega (arith, no))
+refuted_by never name procedure script made done outcome reply one written same f (by_name s read none e) = let no : 3 ≡ 1 = status_is reply _ 1 e one in absurd (omega (arith, no))
+refuted_by never name procedure script made done outcome reply one written same f (by_shape s read p named upper e) = let no : 3 ≡ 1 = status_is reply _ 1 e one in absurd (omega (arith, no))
+refuted_by never name procedure script made done outcome reply one written same f (by_program s read p named upper q first e) = let no : 3 ≡ 1 = status_is reply _ 1 e one in absurd (omega (arith, no))
+refuted_by never name procedure script made done outcome reply one written same f (by_search s read p named upper programs tells) =
     let ps = resolved f.file in
     let known : Spells (Some (known_of (procedure_at (resolved f.file) p))) s f.text = subst (λ (found : Option ℕ). Spells (known_at (resolved f.file) found) s f.text) named read in
     let v : Violated (resolved f.file) p s (refute_start (resolved f.file) p s reply.answers) reply.answers reply = violated_by (resolved f.file) p s (refute_start (resolved f.file) p s reply.answers) reply.answers reply tells.answer tells.is_answer tells.violation tells.numbers tells.told one in
@@ -88,14 +88,15 @@ refuted_by name procedure script made done outcome reply one written same f (by_
       sum = v.sum;
       bound = v.bound;
       numbers = v.numbers;
-      unverified = λ other said alike headline verified. violation.refutes (resolved other) alike (headline.verified p verified);
+      no_bound = λ other alike. violation.refutes (resolved other) alike;
+      unverified = λ other alike none. never other p none (violation.refutes (resolved other) alike);
       written = subst (λ (r : Reply). IsWritten r done outcome) (v.told ∙ ap (violated (procedure_at (resolved f.file) p).name v.step v.sum v.bound) (sym same)) written;
     }
 
 -- Where a reply to `refute` has its cause, was delivered, and its outcome has the status 1, it is a violation of the runs.
-pub violations_meant : (made : Call) (done : Writing) (outcome : Outcome) (reply : Reply) → HasCause made reply → IsDelivered reply done outcome → ViolationsAreMeant made done outcome
-violations_meant made done outcome reply cause delivered name procedure script asks is_one =
+pub violations_meant : BrokenBoundsAreNeverVerified → (made : Call) (done : Writing) (outcome : Outcome) (reply : Reply) → HasCause made reply → IsDelivered reply done outcome → ViolationsAreMeant made done outcome
+violations_meant never made done outcome reply cause delivered name procedure script asks is_one =
     let written = written_low reply done outcome (low outcome.status is_one) delivered.delivered in
     let one = sym written.status ∙ is_one in
     let f = came_low (λ bytes text. IsRefuteOf procedure text) (Refute name procedure script) (Files.two name script) made reply (λ bytes text told. told) (low reply.status one) (came_to (Refute name procedure script) made reply asks cause) in
-    refuted_by name procedure script made done outcome reply one written delivered.answers f f.says
+    refuted_by never name procedure script made done outcome reply one written delivered.answers f f.says

@@ -114,7 +114,7 @@ record Spelled (procedure bytes text : List ℕ) (reply : Reply) : Type 0 where
   faultless : first_fault file ≡ None
   summed : Summed (resolved file) procedure text reply
 
-nothing_found : (xs : List Finding) → first xs ≡ None → xs ≡ []
+pub nothing_found : (xs : List Finding) → first xs ≡ None → xs ≡ []
 nothing_found [] e = refl
 nothing_found (x ∷ xs) e = absurd (cc)
 

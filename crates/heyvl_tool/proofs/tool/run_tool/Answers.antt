@@ -18,4 +18,4 @@ pub returns-in-Ok-clause-bounded : goal.returns-in-Ok-clause-bounded
 returns-in-Ok-clause-bounded g c = bounds_meant _ _ _ _ c.in-Ok.ensures.cause c.deliver.ensures.delivered
 
 pub returns-in-Ok-clause-refuted : goal.returns-in-Ok-clause-refuted
-returns-in-Ok-clause-refuted g c = violations_meant _ _ _ _ c.in-Ok.ensures.cause c.deliver.ensures.delivered
+returns-in-Ok-clause-refuted g c = violations_meant c.broken_bounds_are_never_verified.ensures _ _ _ _ c.in-Ok.ensures.cause c.deliver.ensures.delivered
