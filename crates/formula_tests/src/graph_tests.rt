@@ -35,7 +35,7 @@ fn put_again(graph: &mut Graph, form: &Form) -> Result<Option<NodeId>, AllocErro
 
 /// Writes the sizes of a formula that is put into an empty list, and put again.
 pub fn write_put(alloc: Global, form: &Form, text: &mut String) -> Result<(), AllocError> {
-    let mut graph = Graph::new(alloc);
+    let mut graph = Graph::new(alloc)?;
     match put_again(&mut graph, form)? {
         Some(id) => write_sizes(graph.nodes(id), graph.depth(id), graph.len(), text),
         None => text.push_str("two numbers"),
@@ -89,7 +89,7 @@ fn holds(graph: &mut Graph) -> Result<NodeId, AllocError>
 
 /// Writes the sizes of whether the variable 0 holds, after so many fair coins are thrown for it.
 pub fn write_coins(alloc: Global, times: &str, text: &mut String) -> Result<(), AllocError> {
-    let mut graph = Graph::new(alloc);
+    let mut graph = Graph::new(alloc)?;
     let start = holds(&mut graph)?;
     let id = thrown_often(&mut graph, start, fraction("1/2")?, count(times)?)?;
     write_sizes(graph.nodes(id), graph.depth(id), graph.len(), text)

@@ -66,7 +66,7 @@ pub fn write_repeated(
     most: &str,
     text: &mut String,
 ) -> Result<(), AllocError> {
-    let mut graph = Graph::new(alloc);
+    let mut graph = Graph::new(alloc)?;
     let post = holds(&mut graph)?;
     let acts = repeated(alloc, step, count(times)?)?;
     write_form(&mut graph, &acts, post, limit(most)?, text)
@@ -78,7 +78,7 @@ pub fn write_before_any(alloc: Global, most: &str, text: &mut String) -> Result<
     if most >= 1_073_741_824 {
         return Err(AllocError);
     }
-    let mut graph = Graph::new(alloc);
+    let mut graph = Graph::new(alloc)?;
     let post = same(&mut graph)?;
     let acts = before_any(alloc)?;
     write_form(&mut graph, &acts, post, most, text)

@@ -36,8 +36,15 @@ impl Model for Graph {
 }
 
 impl Graph {
+    /// The empty list. It takes no memory yet; the error is there for lists that do.
+    pub fn new(alloc: Global) -> Result<Graph, AllocError>
+        ensures { IfOk result (λ graph. graph ≡ []) }
+    {
+        Ok(Graph::empty(alloc))
+    }
+
     /// No nodes.
-    pub fn new(alloc: Global) -> Graph
+    fn empty(alloc: Global) -> Graph
         ensures { result ≡ [] }
     {
         Graph {

@@ -26,7 +26,7 @@ const MOST_TERMS: usize = 262_144;
 pub(crate) fn goal_part(alloc: Global, goal: &Goal) -> Result<Rc<Part, Global>, AllocError>
     ensures { IfOk result (λ p. IsGoalPart (goal_of goal.now) p.value) }
 {
-    let mut graph = Graph::new(alloc);
+    let mut graph = Graph::new(alloc)?;
     let stated = put_folded(&mut graph, &goal.stated)?;
     let found = put_folded(&mut graph, &goal.found)?;
     let parts = parts_of(alloc, &graph)?;

@@ -34,7 +34,7 @@ pub fn vp(alloc: Global, acts: &[Act], post: Form) -> Result<Form, VpStop>
     requires { AreFit (acts_of acts.now) (form_of post) }
     ensures { IsAnswer (vp (acts_of acts.now) (form_of post)) result }
 {
-    let mut graph = Graph::new(alloc);
+    let mut graph = Graph::new(alloc)?;
     let mut form = graph.put(&post)?;
     let mut rest = acts;
     'parts: loop {
@@ -61,7 +61,7 @@ fn uncrowded(alloc: Global, graph: Graph, form: NodeId) -> Result<(Graph, NodeId
         return Ok((graph, form));
     }
     let tree = graph.tree(form)?;
-    let mut own = Graph::new(alloc);
+    let mut own = Graph::new(alloc)?;
     let id = own.put(&tree)?;
     Ok((own, id))
 }

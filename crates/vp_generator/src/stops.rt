@@ -4,12 +4,19 @@ ghost use Rattle.std.specs.Prelude.{◌≡◌, alloc_error};
 ghost use Rattle.vp_generator.specs.declared.stops.VpStop.TheVariants.{Memory};
 
 use std::alloc::{AllocError, AllocFailed};
+use thiserror::Error;
 
-/// The form is too deep, or it has too many nodes; or there is no memory.
-#[derive(Debug, Drop)]
+/// Why no form is made.
+#[derive(Debug, Drop, Error)]
 pub enum VpStop {
+    /// The form is more than 1,000 deep.
+    #[error("the form is more than 1,000 deep")]
     Depth,
+    /// The form has more nodes than it may have.
+    #[error("the form has too many nodes")]
     Nodes,
+    /// Memory ran out.
+    #[error("out of memory")]
     Memory(AllocError),
 }
 
