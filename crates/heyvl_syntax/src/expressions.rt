@@ -3,6 +3,7 @@
 ghost use Rattle.heyvl_syntax.specs.Expressions.{expression, expressions};
 ghost use Rattle.std.specs.Prelude.{◌≡◌, IfOk};
 
+use crate::copies::in_box;
 use crate::{BinaryOp, Lit, TypeName, UnaryOp};
 use heyvl_places::{Name, Span};
 use std::alloc::{AllocError, Global};
@@ -62,29 +63,29 @@ impl Expr {
             Expr::Truth(truth, span) => Ok(Expr::Truth(*truth, *span)),
             Expr::Infinity(span) => Ok(Expr::Infinity(*span)),
             Expr::Name(name, span) => Ok(Expr::Name(name.copy(alloc)?, *span)),
-            Expr::Group(inner, span) => Ok(Expr::Group(inner.copy(alloc)?.boxed(alloc)?, *span)),
+            Expr::Group(inner, span) => Ok(Expr::Group(in_box(alloc, inner.copy(alloc))?, *span)),
             Expr::Bracket(inner, span) => Ok(Expr::Bracket(
-                inner.copy(alloc)?.boxed(alloc)?,
+                in_box(alloc, inner.copy(alloc))?,
                 *span,
             )),
-            Expr::Embed(inner, span) => Ok(Expr::Embed(inner.copy(alloc)?.boxed(alloc)?, *span)),
+            Expr::Embed(inner, span) => Ok(Expr::Embed(in_box(alloc, inner.copy(alloc))?, *span)),
             Expr::Unary(op, inner, span) => Ok(Expr::Unary(
                 *op,
-                inner.copy(alloc)?.boxed(alloc)?,
+                in_box(alloc, inner.copy(alloc))?,
                 *span,
             )),
             Expr::Binary(op, left, right, span) => {
-                let left = left.copy(alloc)?.boxed(alloc)?;
-                Ok(Expr::Binary(*op, left, right.copy(alloc)?.boxed(alloc)?, *span))
+                let left = in_box(alloc, left.copy(alloc))?;
+                Ok(Expr::Binary(*op, left, in_box(alloc, right.copy(alloc))?, *span))
             }
             Expr::Choice(test, left, right, span) => {
-                let test = test.copy(alloc)?.boxed(alloc)?;
-                let left = left.copy(alloc)?.boxed(alloc)?;
-                Ok(Expr::Choice(test, left, right.copy(alloc)?.boxed(alloc)?, *span))
+                let test = in_box(alloc, test.copy(alloc))?;
+                let left = in_box(alloc, left.copy(alloc))?;
+                Ok(Expr::Choice(test, left, in_box(alloc, right.copy(alloc))?, *span))
             }
             Expr::Bound(up, name, ty, inner, span) => {
                 let name = name.copy(alloc)?;
-                Ok(Expr::Bound(*up, name, *ty, inner.copy(alloc)?.boxed(alloc)?, *span))
+                Ok(Expr::Bound(*up, name, *ty, in_box(alloc, inner.copy(alloc))?, *span))
             }
         }
     }

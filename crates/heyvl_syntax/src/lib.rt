@@ -3,6 +3,7 @@
 
 mod bytes;
 mod comments;
+mod copies;
 mod expressions;
 mod fronts;
 mod keys;

@@ -3,6 +3,7 @@
 ghost use Rattle.heyvl_syntax.specs.Statements.{arms, block, choices, guarded, loop_rule, loop_rules, optional_right, right_side, statement};
 ghost use Rattle.std.specs.Prelude.{◌≡◌, IfOk};
 
+use crate::copies::beside;
 use crate::{Expr, TypeName};
 use heyvl_places::{CheckKind, Name, Span};
 use std::alloc::{AllocError, Global};
@@ -85,6 +86,7 @@ pub enum Stmt {
 }
 
 impl Drop for Stmt {
+    #[cycle(statements_drop)]
     fn drop(self) {
         match self {
             Stmt::Var(_, _, _, _) => {}
@@ -108,12 +110,12 @@ impl Rule {
         match self {
             Rule::Invariant(invariant, span) => Ok(Rule::Invariant(invariant.copy(alloc)?, *span)),
             Rule::KInduction(k, invariant, span) => {
-                let k = k.copy(alloc)?;
-                Ok(Rule::KInduction(k, invariant.copy(alloc)?, *span))
+                let (k, invariant) = beside(k.copy(alloc), invariant.copy(alloc))?;
+                Ok(Rule::KInduction(k, invariant, *span))
             }
             Rule::Ranking(step, ranking, span) => {
-                let step = step.copy(alloc)?;
-                Ok(Rule::Ranking(step, ranking.copy(alloc)?, *span))
+                let (step, ranking) = beside(step.copy(alloc), ranking.copy(alloc))?;
+                Ok(Rule::Ranking(step, ranking, *span))
             }
         }
     }
@@ -139,8 +141,8 @@ impl Right {
             Right::Plain(value) => Ok(Right::Plain(value.copy(alloc)?)),
             Right::Flip(probability) => Ok(Right::Flip(probability.copy(alloc)?)),
             Right::Unif(low, high) => {
-                let low = low.copy(alloc)?;
-                Ok(Right::Unif(low, high.copy(alloc)?))
+                let (low, high) = beside(low.copy(alloc), high.copy(alloc))?;
+                Ok(Right::Unif(low, high))
             }
             Right::Choose(parts) => Ok(Right::Choose(copy_parts(alloc, parts)?)),
             Right::Call(name, arguments) => {
@@ -157,8 +159,7 @@ fn copy_parts(alloc: Global, parts: &[(Expr, Expr)]) -> Result<Vec<(Expr, Expr)>
 {
     let mut copied = Vec::with_capacity(alloc, parts.len())?;
     for (weight, value) in parts {
-        let weight = weight.copy(alloc)?;
-        copied.push((weight, value.copy(alloc)?))?;
+        copied.push(beside(weight.copy(alloc), value.copy(alloc))?)?;
     }
     Ok(copied)
 }
@@ -169,9 +170,10 @@ impl Arm {
     pub fn copy(&self, alloc: Global) -> Result<Arm, AllocError>
         ensures { IfOk result (λ copied. guarded copied ≡ guarded self.now) }
     {
+        let body = Stmt::copy_all(alloc, &self.body)?;
         Ok(Arm {
             guard: self.guard.copy(alloc)?,
-            body: Stmt::copy_all(alloc, &self.body)?,
+            body,
         })
     }
 
@@ -221,8 +223,8 @@ impl Stmt {
             }
             Stmt::While(rules, guard, body, span) => {
                 let rules = copy_rules(alloc, rules)?;
-                let guard = guard.copy(alloc)?;
-                Ok(Stmt::While(rules, guard, Stmt::copy_all(alloc, body)?, *span))
+                let body = Stmt::copy_all(alloc, body)?;
+                Ok(Stmt::While(rules, guard.copy(alloc)?, body, *span))
             }
         }
     }

@@ -1,0 +1,27 @@
+//! Copies put together, or the want of memory that left one of them out.
+
+ghost use Rattle.std.specs.Prelude.{IfOk, Ok, ◌≡◌};
+
+use std::alloc::{AllocError, Global};
+
+/// A copy in a box.
+pub(crate) fn in_box<T: Drop>(
+    alloc: Global,
+    copied: Result<T, AllocError>,
+) -> Result<Box<T>, AllocError>
+    ensures { IfOk result (λ boxed. copied ≡ Ok boxed.value) }
+{
+    Ok(Box::new(alloc, copied?)?)
+}
+
+/// Two copies beside each other.
+pub(crate) fn beside<A: Drop, B: Drop>(
+    first: Result<A, AllocError>,
+    second: Result<B, AllocError>,
+) -> Result<(A, B), AllocError>
+    ensures first { IfOk result (λ both. first ≡ Ok both.0) }
+    ensures second { IfOk result (λ both. second ≡ Ok both.1) }
+{
+    let first = first?;
+    Ok((first, second?))
+}
