@@ -22,7 +22,7 @@ use Rattle.verify_core.specs.GoalDecisions.{outcome_of}
 use Rattle.verify_core.specs.NumberedLists.{row_at}
 use Rattle.verify_core.specs.Outcomes.{IsTold, all_proved, first_with, is_falsified, is_open, is_proved, told}
 use Rattle.verify_core.specs.Verdicts.{IsClosed, IsFirstOpen, IsVerdict}
-use Rattle.answer_laws.proofs.Named.{GoalOutcome, Outcome}
+use Rattle.answer_laws.specs.Named.{GoalOutcome, Outcome}
 use Rattle.answer_laws.proofs.Told.{IsLawfulOne, same_some, told_unproved}
 
 -- What outcomes that are alike have in common, and the verdicts that are alike by them.

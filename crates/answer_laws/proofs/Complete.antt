@@ -1,7 +1,7 @@
 -- Where no cause is at a goal, its answers are complete.
 use Rattle.std.proofs.Common.{◌≡◌, ◌↔◌, ◌<◌, ℕ, refl, sym, ap, ◌∙◌, subst, arith, true, List, [], ◌∷◌, ◌++◌, length, map, slice_index_or, take}
 use Rattle.std.proofs.lemmas.Bool.{false≢true}
-use Rattle.std.specs.List.{Contains}
+use Rattle.std.specs.List.{AllZip, Contains}
 use Rattle.std.specs.Prelude.{Some, None, Vec}
 use Rattle.std.specs.declared.alloc.Global.{Global}
 use Prim.Native.Nat.{zero, suc}
@@ -40,10 +40,11 @@ use Rattle.verify_core.specs.NumberedLists.{row_at}
 use Rattle.verify_core.specs.Outcomes.{IsTold, all_outcomes, loop_answer, outcomes, rank_of}
 use Rattle.verify_core.specs.Questions.{IsGoalOf}
 use Rattle.verify_core.specs.Rankings.{IsRankingGoal, ranked_loops}
+use Rattle.verify_core.specs.SingleGoals.{GoalsAreMeantAlone, IsMeantAlone}
 use Rattle.verify_core.specs.Tables.{AreFound}
 use Rattle.verify_core.specs.Verdicts.{IsAnswer, IsVerdict}
-use Rattle.answer_laws.specs.CompleteAnswers.{DecisionsAreComplete, IsBoundWithinReach, IsGoalWithinReach, IsRankingWithinReach, IsWithinReach, RankVerdictsAreComplete, VerdictsAreComplete}
-use Rattle.answer_laws.proofs.Named.{GoalOutcome, Outcome}
+use Rattle.answer_laws.specs.CompleteAnswers.{DecisionsAreComplete, GoalsAreComplete, IsBoundWithinReach, IsCompleteAlone, IsGoalWithinReach, IsRankingWithinReach, IsWithinReach, RankVerdictsAreComplete, VerdictsAreComplete}
+use Rattle.answer_laws.specs.Named.{GoalOutcome, Outcome}
 use Rattle.answer_laws.proofs.Rows.{IsPlaced, placed, row_of, row_outcomes}
 use Rattle.answer_laws.proofs.Told.{told_is}
 
@@ -79,6 +80,27 @@ rank_unmissed : (d : Decision) (m : Miss) → rank_of (outcome_of d) ≡ rank.Un
 rank_unmissed (Proved t) m e = cc
 rank_unmissed (Falsified s) m e = cc
 rank_unmissed (Unknown c) m e = cc
+
+-- ---- Each goal of a bound by itself
+
+complete_one : (ps : List TypedProcedure) (p : ℕ) (asked : BoundGoal) (g : NamedGoal) (d : Decision) → IsGoalOf ps p asked g → IsDecisionOf g.made d → IsMeantAlone ps p asked (record { goal = g; outcome = outcome_of d }) → IsCompleteAlone ps p asked (record { goal = g; outcome = outcome_of d })
+complete_one ps p asked g (Proved t) is k m r = (m.proved, λ h. refl)
+complete_one ps p asked g (Falsified s) is k m r = (m.proved, λ h. let f = m.falsified s refl in absurd (f.fails (h (take (length (goal_variables ps (procedure_at ps p) asked)) s.items) f.choices f.state)))
+complete_one ps p asked g (Unknown c) is k m r = (m.proved, λ h. absurd (known g.made (Unknown c) c k (r g.made is.made) refl))
+
+complete_row : (ps : List TypedProcedure) (p : ℕ) (ids : List BoundGoal) (gs : List DecidedGoal) → AreFound (IsGoalOf ps p) Decides ids gs → AllZip (IsMeantAlone ps p) ids (outcomes outcome_of gs) → AllZip (IsCompleteAlone ps p) ids (outcomes outcome_of gs)
+complete_row ps p [] [] h m = tt
+complete_row ps p [] (g ∷ gs) h m = absurd h
+complete_row ps p (i ∷ ids) [] h m = absurd h
+complete_row ps p (i ∷ ids) (g ∷ gs) h m = (complete_one ps p i g.goal g.found h.0.goal h.0.found m.0, complete_row ps p ids gs h.1 m.1)
+
+pub goals_complete : GoalsAreMeantAlone → GoalsAreComplete
+goals_complete law ps answers told certs rules are p there =
+    let ids = bound_goals (procedure_at ps p) in
+    let row : AreFound (IsGoalOf ps p) Decides ids (row_at are.table p) = row_of (λ k q gs. AreFound (IsGoalOf ps k) Decides (bound_goals q) gs) ps are.table p there are.decided in
+    let same = row_outcomes outcome_of are.table p in
+    let meant = subst (λ os. AllZip (IsMeantAlone ps p) ids os) same (law ps answers told certs rules are p there) in
+    subst (λ os. AllZip (IsCompleteAlone ps p) ids os) (sym same) (complete_row ps p ids (row_at are.table p) row meant)
 
 -- ---- The goals of a bound
 

@@ -1,4 +1,3 @@
-mod Named
 mod Rows
 mod Told
 mod Complete

@@ -5,7 +5,7 @@ use Rattle.heyvl_acts.specs.Acts.{TypedProcedure, procedure_at}
 use Rattle.verify_core.specs.NumberedLists.{AllNumbered, row_at}
 use Rattle.verify_core.specs.Outcomes.{all_outcomes, outcomes}
 use Rattle.verify_core.specs.Tables.{GoalWith}
-use Rattle.answer_laws.proofs.Named.{Outcome}
+use Rattle.answer_laws.specs.Named.{Outcome}
 
 first_number : (k : ℕ) → k ≡ k + zero
 first_number k = omega arith

@@ -22,7 +22,7 @@ use Rattle.verify_core.specs.Tables.{AreBoundsFound, AreFound, GoalWith, HasFoun
 use Rattle.verify_core.specs.Verdicts.{IsVerdict}
 use Rattle.answer_laws.specs.SingleAnswers.{DecisionsGiveOneVerdict, MissesGiveOneVerdict}
 use Rattle.answer_laws.proofs.AlikeVerdicts.{Agree, AlikeGoals, IsOrdinary, one_verdict}
-use Rattle.answer_laws.proofs.Named.{GoalOutcome, Outcome}
+use Rattle.answer_laws.specs.Named.{GoalOutcome, Outcome}
 use Rattle.answer_laws.proofs.Told.{IsLawful, IsLawfulOne}
 
 -- ---- Tables

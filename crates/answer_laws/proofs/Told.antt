@@ -5,7 +5,7 @@ use Rattle.std.specs.Option.{option_or}
 use Rattle.std.specs.Prelude.{◌&&◌, Option, Some, None, if◌then◌else◌}
 use Rattle.heyvl_acts.specs.Rules.{Each}
 use Rattle.verify_core.specs.Outcomes.{all_proved, first_with, is_falsified, is_open, is_proved, told}
-use Rattle.answer_laws.proofs.Named.{GoalOutcome, Outcome}
+use Rattle.answer_laws.specs.Named.{GoalOutcome, Outcome}
 
 or_cases : (a b : Option GoalOutcome) (o : GoalOutcome) → option_or a b ≡ Some o → (a ≡ Some o) ⊎ (b ≡ Some o)
 or_cases None b o e = inr e

@@ -1,5 +1,7 @@
 -- Complete answers: where no cause is at a goal, it is proved exactly where it holds. This project's own.
-use Rattle.std.specs.Prelude.{◌≡◌, ◌↔◌, ℕ, true, List, None}
+use Rattle.std.specs.List.{AllZip}
+use Rattle.std.specs.Prelude.{◌≡◌, ◌↔◌, ◌<◌, ℕ, true, List, None, length}
+use Rattle.answer_laws.specs.Named.{GoalOutcome}
 use Rattle.goal_answers.specs.declared.causes.Cause.{Cause}
 use Rattle.goal_answers.specs.declared.decisions.Decision.{Decision}
 use Rattle.goal_answers.specs.declared.named_goals.NamedGoal.{NamedGoal}
@@ -9,8 +11,8 @@ use Rattle.heylo_formula.specs.TypedGoals.{HasItsVariables, IsTypedGoal}
 use Rattle.heylo_formula.specs.declared.goals.Made.{Made}
 use Rattle.heylo_formula.specs.declared.goals.Made.TheVariants as made
 use Rattle.heyvl_acts.specs.Acts.{TypedProcedure, procedure_at}
-use Rattle.heyvl_acts.specs.Rules.{Each}
-use Rattle.loop_encodings.specs.BoundGoals.{BoundGoal, BoundGoalsHold, bound_goals}
+use Rattle.heyvl_acts.specs.Rules.{Each, MeetsRules}
+use Rattle.loop_encodings.specs.BoundGoals.{BoundGoal, BoundGoalsHold, GoalHolds, bound_goals}
 use Rattle.ranking_rule.specs.RankingGoals as ranking
 use Rattle.ranking_rule.specs.Rankings.{IsRanking, RankedLoop}
 use Rattle.region_split.specs.Decisions.{IsCause, IsDecision}
@@ -22,7 +24,8 @@ use Rattle.verdict_report.specs.declared.answers.Verdict.{Verdict}
 use Rattle.verify_core.specs.AnsweredProcedures.{AreAnswered}
 use Rattle.verify_core.specs.GoalDecisions.{outcome_of}
 use Rattle.verify_core.specs.Headline.{IsHeadline, says_proved}
-use Rattle.verify_core.specs.Outcomes.{is_proved}
+use Rattle.verify_core.specs.NumberedLists.{row_at}
+use Rattle.verify_core.specs.Outcomes.{all_outcomes, is_proved}
 use Rattle.verify_core.specs.Questions.{IsMadeOf, question}
 
 -- None of the causes for which nothing is known of a goal is at this one.
@@ -42,6 +45,15 @@ IsWithinReach made.Nodes = ⊥
 -- Nothing keeps the goal of a bound from being decided, whatever is made of its question.
 abbrev pub IsGoalWithinReach : List TypedProcedure → ℕ → BoundGoal → Type 0
 IsGoalWithinReach ps p asked = (m : Made) → IsMadeOf (question ps (procedure_at ps p) asked) m → IsWithinReach m
+
+-- A goal of a bound, where nothing keeps it from being decided, is proved exactly where it holds.
+abbrev pub IsCompleteAlone : List TypedProcedure → ℕ → BoundGoal → GoalOutcome → Type 0
+IsCompleteAlone ps p asked o = IsGoalWithinReach ps p asked → (is_proved o.outcome ≡ true) ↔ GoalHolds ps (procedure_at ps p) asked
+
+-- So it is for each goal of a bound in a file that meets the rules, whatever keeps the procedure's other goals from being decided.
+abbrev pub GoalsAreComplete : Type 0
+GoalsAreComplete = (ps : List TypedProcedure) (answers : List Answer) (told : List NamedGoal) (certs : List GoalCert) → Each (MeetsRules ps) ps → (are : AreAnswered ps answers told certs) (p : ℕ) → p < length ps
+    → AllZip (IsCompleteAlone ps p) (bound_goals (procedure_at ps p)) (row_at (all_outcomes outcome_of are.table) p)
 
 -- Nothing keeps the goals of the procedure's bound from being decided.
 abbrev pub IsBoundWithinReach : List TypedProcedure → ℕ → Type 0

@@ -5,6 +5,7 @@ ghost use Rattle.answer_laws.specs.SingleAnswers as single;
 
 use farkas_check::certificates_are_told_apart;
 use region_split::{decisions_are_unique, decisions_tell};
+use verify_core::answers_keep_promises;
 
 /// A decision of a typed goal at which no cause is proves it exactly where it holds.
 pub fn decisions_are_complete()
@@ -20,6 +21,14 @@ pub fn verdicts_are_complete()
     ensures bounds { complete.VerdictsAreComplete }
     ensures rankings { complete.RankVerdictsAreComplete }
 {}
+
+/// Each goal of a bound at which nothing keeps it from being decided is proved exactly where it holds, whatever comes of the procedure's
+/// other goals.
+pub fn goals_are_complete()
+    ensures { complete.GoalsAreComplete }
+{
+    answers_keep_promises();
+}
 
 /// What is decided of the goals of a file, or what certificates miss of them, gives each procedure one verdict.
 pub fn tables_give_one_verdict()

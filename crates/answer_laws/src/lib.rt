@@ -4,5 +4,6 @@
 mod laws;
 
 pub use laws::{
-    decisions_are_complete, tables_give_one_verdict, verdicts_are_complete, verdicts_are_unique,
+    decisions_are_complete, goals_are_complete, tables_give_one_verdict, verdicts_are_complete,
+    verdicts_are_unique,
 };

@@ -51,7 +51,7 @@ use Rattle.vp_generator.specs.PrenexedGoals.{PrenexedGoalsFailByChoices}
 
 -- ---- Proved goals hold
 
-proved_holds : (g : Goal) (o : Outcome) → Means g o → is_proved o ≡ true → Holds g
+pub proved_holds : (g : Goal) (o : Outcome) → Means g o → is_proved o ≡ true → Holds g
 proved_holds g outcome.Proved m e = m
 proved_holds g (outcome.Falsified s) m e = absurd (false≢true e)
 proved_holds g (outcome.Unknown c) m e = absurd (false≢true e)

@@ -26,6 +26,7 @@ mod StandingRankings
 mod PlacedAnswers
 mod WholeFiles
 mod PromisedAnswers
+mod SingleGoals
 mod CertOrder
 mod ServedGoals
 mod AcceptedProofs

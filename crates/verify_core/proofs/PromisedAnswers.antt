@@ -102,13 +102,17 @@ module _ (laws : Laws) (ps : List TypedProcedure) (rules : Each (MeetsRules ps) 
       → AreOutcomes ps (all_outcomes (outcome_by way) table) (all_outcomes (outcome_by way) ranks)
   outcomes_are way table ranks b r = are_outcomes laws.certified laws.goals laws.formula laws.over laws.encoded laws.rankings ps rules way table ranks b r
 
-  pub answers_promise : (answers : List Answer) (made : List NamedGoal) (certs : List GoalCert) → AreAnswered ps answers made certs → IsHeadline ps answers
-  answers_promise answers made certs h =
+  pub decided_outcomes : (answers : List Answer) (made : List NamedGoal) (certs : List GoalCert) (h : AreAnswered ps answers made certs) → AreOutcomes ps (all_outcomes (outcome_by Decide) h.table) (all_outcomes (outcome_by Decide) h.ranks)
+  decided_outcomes answers made certs h =
       let bounds = table_tells (IsGoalOf ps) bound_goals (length ps) 0 ps h.table (omega arith) bound_tells h.decided in
       let ranks = table_tells (IsRankingGoal ps) ranked_loops (length ps) 0 ps h.ranks (omega arith) ranking_tells h.ranks_decided in
-      headline laws.say laws.shown laws.broken laws.encoded laws.means laws.formula laws.over laws.failing ps rules (all_outcomes (outcome_by Decide) h.table) (all_outcomes (outcome_by Decide) h.ranks) (outcomes_are Decide h.table h.ranks bounds ranks) laws.bound laws.hold laws.unrank answers h.answers_of
+      outcomes_are Decide h.table h.ranks bounds ranks
+
+  pub checked_outcomes : (given : Bor (List GoalCert)) (answers : List Answer) (h : IsCheckedFile ps given.now answers) → AreOutcomes ps (all_outcomes (outcome_by (Check given)) h.table) (all_outcomes (outcome_by (Check given)) h.ranks)
+  checked_outcomes given answers h = outcomes_are (Check given) h.table h.ranks h.checked h.ranks_checked
+
+  pub answers_promise : (answers : List Answer) (made : List NamedGoal) (certs : List GoalCert) → AreAnswered ps answers made certs → IsHeadline ps answers
+  answers_promise answers made certs h = headline laws.say laws.shown laws.broken laws.encoded laws.means laws.formula laws.over laws.failing ps rules (all_outcomes (outcome_by Decide) h.table) (all_outcomes (outcome_by Decide) h.ranks) (decided_outcomes answers made certs h) laws.bound laws.hold laws.unrank answers h.answers_of
 
   pub checked_promise : (given : Bor (List GoalCert)) (answers : List Answer) → IsCheckedFile ps given.now answers → IsHeadline ps answers
-  checked_promise given answers h =
-      let way = Check given in
-      headline laws.say laws.shown laws.broken laws.encoded laws.means laws.formula laws.over laws.failing ps rules (all_outcomes (outcome_by way) h.table) (all_outcomes (outcome_by way) h.ranks) (outcomes_are way h.table h.ranks h.checked h.ranks_checked) laws.bound laws.hold laws.unrank answers h.answers_of
+  checked_promise given answers h = headline laws.say laws.shown laws.broken laws.encoded laws.means laws.formula laws.over laws.failing ps rules (all_outcomes (outcome_by (Check given)) h.table) (all_outcomes (outcome_by (Check given)) h.ranks) (checked_outcomes given answers h) laws.bound laws.hold laws.unrank answers h.answers_of

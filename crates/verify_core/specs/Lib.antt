@@ -13,5 +13,6 @@ pub mod TossProducts
 pub mod CertifiedGoals
 pub mod CheckedAnswers
 pub mod PromisedAnswers
+pub mod SingleGoals
 pub mod CheckedProofs
 pub mod internal

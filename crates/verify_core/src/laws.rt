@@ -4,6 +4,7 @@ ghost use Rattle.verify_core.specs.CheckedProofs.{ProofsAreAccepted, ProvedGoals
 ghost use Rattle.verify_core.specs.FreshVariables as new;
 ghost use Rattle.verify_core.specs.GoalLaws.{MadeGoalsSayBounds};
 ghost use Rattle.verify_core.specs.PromisedAnswers.{AnswersKeepPromises, CheckedAnswersKeepPromises};
+ghost use Rattle.verify_core.specs.SingleGoals.{BoundGoalsAreGoals, CheckedGoalsAreMeantAlone, GoalsAreMeantAlone};
 ghost use Rattle.verify_core.specs.TossProducts.{TossProductsAreLinear};
 
 use bounded_runs::{broken_goals_break_bounds, shown_bounds_hold};
@@ -47,9 +48,13 @@ pub fn toss_products_are_linear()
 {}
 
 /// Answers by decisions of a file's goals, and answers by certificates of them, keep the promises of the headline, whatever made them.
+/// Of the goals of a bound, each is meant by itself: one that is proved holds also where another one of the procedure is open.
 pub fn answers_keep_promises()
     ensures decided { AnswersKeepPromises }
     ensures checked { CheckedAnswersKeepPromises }
+    ensures goals { BoundGoalsAreGoals }
+    ensures alone { GoalsAreMeantAlone }
+    ensures checked_alone { CheckedGoalsAreMeantAlone }
 {
     made_goals_say_bounds();
     decisions_tell();
