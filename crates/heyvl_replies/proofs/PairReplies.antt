@@ -1,5 +1,8 @@
 -- What is said of two procedures, from what its parts say; and that it is the one thing that is said of a file without a fault.
-use Rattle.heyvl_acts.specs.Acts.{TypedProcedure, procedure_at}
+use Rattle.heyvl_acts.specs.Acts.{Acts, TypedProcedure, procedure_at}
+use Rattle.heyvl_acts.specs.Places.{in_order}
+use Rattle.heyvl_acts.specs.Program.{IsProgram}
+use Rattle.heyvl_acts.specs.Rules.{Each, loop_numbers}
 use Rattle.heyvl_syntax.specs.SourceFaults.{SourcesHaveNoFault}
 use Rattle.spelled_files.specs.PrintLaws.{SpellingIsUnique}
 use Rattle.heyvl_replies.proofs.SaidOfFiles.{said_of_file, same_number}
@@ -9,16 +12,15 @@ use Rattle.command_rules.specs.commands.Omega.{IsOmegaOf, OmegaPairsAreAnswered,
 use Rattle.command_rules.specs.commands.Remainder.{IsRemainderOf, RemainderPairsAreAnswered, TellsRemainder}
 use Rattle.static_rules.specs.Files.{resolved}
 use Rattle.lower_rules.specs.OmegaAnswers.{IsOmegaAnswer}
-use Rattle.lower_rules.specs.RemainderAnswers.{HasBoundedTurns, IsRemainderAnswer}
+use Rattle.lower_rules.specs.RemainderAnswers.{HasBoundedTurns, HasSmallBound, IsRemainderAnswer}
 use Rattle.lower_goals.specs.declared.answers.Omega.TheVariants as omega_answers
 use Rattle.lower_goals.specs.declared.answers.Omega.{Omega}
 use Rattle.lower_goals.specs.declared.remainder_answers.Remainder.TheVariants as remainder_answers
 use Rattle.lower_goals.specs.declared.remainder_answers.Remainder.{Remainder}
 use Rattle.lower_texts.specs.OmegaTexts as omega_texts
 use Rattle.lower_texts.specs.RemainderTexts as remainder_texts
-use Rattle.loop_encodings.specs.BoundGoals.{BoundGoalsHold}
-use Rattle.run_machine.specs.Bound.{Bound}
-use Rattle.std.proofs.Common.{List, None, Option, Some, inl, inr, refl, subst, sym, ◌∙◌, ◌≡◌, ◌⊎◌, ℕ}
+use Rattle.loop_encodings.specs.BoundGoals.{BoundGoal, GoalHolds, bound_goals}
+use Rattle.std.proofs.Common.{List, None, Option, Some, inl, inr, map, refl, subst, sym, true, ◌∙◌, ◌∷◌, ◌≡◌, ◌⊎◌, ℕ}
 use Rattle.verdict_report.specs.VerdictsOn.{IsVerdictOn, IsVerdictOnLoop}
 use Rattle.verdict_report.specs.declared.answers.Answer.{Answer}
 use Rattle.verdict_report.specs.declared.answers.RankVerdict.TheVariants.{Ranked}
@@ -43,11 +45,29 @@ remainder_has_pair ps answers p q remainder_answers.Shape is = tt
 
 -- ---- What the answers of `verify` give
 
-pub gives_bound : (ps : List TypedProcedure) (answers : List Answer) (p : ℕ) → IsHeadline ps answers → IsVerdictOn answers p Verified → Bound ps p
-gives_bound ps answers p h is = h.verified p is
+record HasBody (p : TypedProcedure) : Type 0 where
+  pub acts : Acts
+  pub is : p.body ≡ Some acts
 
-pub gives_goals : (ps : List TypedProcedure) (answers : List Answer) (p : ℕ) → IsHeadline ps answers → IsVerdictOn answers p Verified → BoundGoalsHold ps (procedure_at ps p)
-gives_goals ps answers p h is = h.proved p Verified is refl
+program_body : (p : TypedProcedure) → IsProgram p → HasBody p
+program_body p h = go p.body refl h
+  where
+    go : (b : Option Acts) → p.body ≡ b → IsProgram (record p { body = b }) → HasBody p
+    go None e k = absurd (cc)
+    go (Some acts) e k = record { acts = acts; is = e }
+
+abbrev weak_goals : Acts → List BoundGoal
+weak_goals acts = BoundGoal.main ∷ (BoundGoal.pre ∷ (BoundGoal.post ∷ map BoundGoal.invariant (loop_numbers (in_order acts))))
+
+goals_of_weak : (p : TypedProcedure) (acts : Acts) → p.body ≡ Some acts → p.weak ≡ true → bound_goals p ≡ weak_goals acts
+goals_of_weak p acts e w = subst (λ b. bound_goals (record p { body = b }) ≡ weak_goals acts) (sym e) (subst (λ v. bound_goals (record p { body = Some acts; weak = v }) ≡ weak_goals acts) (sym w) refl)
+
+-- The bound of a weak program that is verified, with its post at most 1.
+pub gives_bound : (ps : List TypedProcedure) (answers : List Answer) (p : ℕ) → IsHeadline ps answers → IsVerdictOn answers p Verified → (procedure_at ps p).weak ≡ true → IsProgram (procedure_at ps p) → HasSmallBound ps p
+gives_bound ps answers p h is weak program =
+    let q = procedure_at ps p in
+    let b = program_body q program in
+    record { bound = h.verified p is; post = (subst (Each (GoalHolds ps q)) (goals_of_weak q b.acts b.is weak) (h.proved p Verified is refl)).1.1.0 }
 
 pub gives_turns : (ps : List TypedProcedure) (answers : List Answer) (p n : ℕ) → IsHeadline ps answers → IsVerdictOnLoop answers p n Ranked → HasBoundedTurns ps p n
 gives_turns ps answers p n h is = let r = h.ranked p n is in record { loop = r.loop; turns = r.turns }

@@ -8,13 +8,11 @@ use Rattle.heyvl_acts.specs.Acts.{TypedProcedure, procedure_at}
 use Rattle.heyvl_acts.specs.PlainActs.{acts_of, procedures_of}
 use Rattle.heyvl_acts.specs.Rules.{MeetsAllRules}
 use Rattle.heyvl_acts.specs.declared.typed_trees.Typed.{Typed}
-use Rattle.loop_encodings.specs.BoundGoals.{BoundGoalsHold}
 use Rattle.loop_encodings.proofs.exported.FromRules.{is_there}
-use Rattle.run_machine.specs.Bound.{Bound}
 use Rattle.verdict_report.specs.declared.answers.Answer.{Answer}
 use Rattle.verdict_report.specs.declared.answers.RankVerdict.TheVariants.{Ranked}
 use Rattle.verdict_report.specs.declared.answers.Verdict.TheVariants.{Verified}
-use Rattle.lower_rules.specs.RemainderAnswers.{HasBoundedTurns, IsPromised, IsRemainderAnswer, IsUnranked, IsUnverified}
+use Rattle.lower_rules.specs.RemainderAnswers.{HasBoundedTurns, HasSmallBound, IsPromised, IsRemainderAnswer, IsUnranked, IsUnverified}
 use Rattle.verdict_report.specs.VerdictsOn.{IsVerdictOn, IsVerdictOnLoop}
 use Rattle.lower_goals.specs.declared.remainder_answers.Remainder.{Remainder}
 use Rattle.lower_goals.specs.declared.remainder_pairs.RankedParts.{RankedParts}
@@ -47,5 +45,5 @@ module _ (typed : Typed) (p q : ℕ) (parts : RankedParts) (all : MeetsAllRules 
     pub part_answer : (answers : List Answer) → IsVerdictOn answers p Verified → IsVerdictOnLoop answers p parts.number Ranked → IsRemainderAnswer ps answers p q a
     part_answer answers v r = subst (λ x. IsRemainderAnswer ps answers p q x) (sym told) (is_answer ps answers p q is.pair v (subst (λ k. IsVerdictOnLoop answers p k Ranked) (sym is.number) r) parts.step step_is d (started_as one other parts is d started))
 
-    pub part_promise : Bound ps p → BoundGoalsHold ps one → HasBoundedTurns ps p parts.number → IsPromised ps p q a
-    part_promise bound goals turns = subst (λ x. IsPromised ps p q x) (sym told) (is_promised ps p q all.each (is_there typed p there) is.pair bound goals (subst (λ k. HasBoundedTurns ps p k) (sym is.number) turns) parts.step step_is d (started_as one other parts is d started))
+    pub part_promise : HasSmallBound ps p → HasBoundedTurns ps p parts.number → IsPromised ps p q a
+    part_promise small turns = subst (λ x. IsPromised ps p q x) (sym told) (is_promised ps p q all.each (is_there typed p there) is.pair small (subst (λ k. HasBoundedTurns ps p k) (sym is.number) turns) parts.step step_is d (started_as one other parts is d started))

@@ -1,6 +1,6 @@
 -- What is answered of a remainder pair, and what it promises.
-use Rattle.std.proofs.Common.{◌≡◌, ◌∙◌, ◌<◌, ℕ, refl, sym, ap, subst, true, List, [], ◌∷◌, ◌++◌, length, map}
-use Rattle.std.specs.Prelude.{Option, Some, None, if◌then◌else◌}
+use Rattle.std.proofs.Common.{◌≡◌, ◌∙◌, ◌<◌, ℕ, refl, sym, ap, subst, List, [], ◌∷◌, ◌++◌, length}
+use Rattle.std.specs.Prelude.{Some, if◌then◌else◌}
 use Rattle.heyvl_num.specs.Rational.{Rational, zeroʳ, ◌<ʳ◌}
 use Rattle.heyvl_num.proofs.exported.Signs.{<ʳ-≤ʳ}
 use Rattle.heylo_formula.specs.Choices.{Choices}
@@ -12,19 +12,17 @@ use Rattle.goal_answers.specs.declared.decisions.Decision.{Decision}
 use Rattle.goal_answers.specs.declared.decisions.Decision.TheVariants as decision
 use Rattle.heyvl_acts.specs.Acts.{Head, Act, Acts, TypedProcedure, acts_in, procedure_at}
 use Rattle.heyvl_acts.specs.Places.{in_order}
-use Rattle.heyvl_acts.specs.Program.{IsProgram}
-use Rattle.heyvl_acts.specs.Rules.{Each, MeetsRules, loop_numbers}
+use Rattle.heyvl_acts.specs.Rules.{Each, MeetsRules}
 use Rattle.heyvl_acts.specs.Straight.{IsStraight}
 use Rattle.heyvl_acts.proofs.exported.Each.{each_at}
-use Rattle.loop_encodings.specs.BoundGoals.{BoundGoal, BoundGoalsHold, GoalHolds, bound_goals}
 use Rattle.act_walks.specs.Loops.{loop_in}
-use Rattle.run_machine.specs.Bound.{Bound, IsState, RankedBy}
+use Rattle.run_machine.specs.Bound.{IsState, RankedBy}
 use Rattle.verdict_report.specs.declared.answers.Answer.{Answer}
 use Rattle.verdict_report.specs.declared.answers.RankVerdict.TheVariants.{Ranked}
 use Rattle.verdict_report.specs.declared.answers.Verdict.TheVariants.{Verified}
 use Rattle.lower_goals.specs.OneLoop.{OneLoop}
-use Rattle.lower_rules.specs.Remainder.{BoundsWithRemainder, HasSmallPost}
-use Rattle.lower_rules.specs.RemainderAnswers.{HasBoundedTurns, IsPromised, IsRemainderAnswer}
+use Rattle.lower_rules.specs.Remainder.{BoundsWithRemainder}
+use Rattle.lower_rules.specs.RemainderAnswers.{HasBoundedTurns, HasSmallBound, IsPromised, IsRemainderAnswer}
 use Rattle.lower_goals.specs.RemainderPairs.{RemainderPair}
 use Rattle.lower_goals.specs.StartGoals.{StartHolds}
 use Rattle.verdict_report.specs.VerdictsOn.{IsVerdictOn, IsVerdictOnLoop}
@@ -33,30 +31,6 @@ use Rattle.lower_goals.proofs.exported.LoopParts.{body_in_order}
 use Rattle.lower_rules.proofs.OmegaBounds.{alike}
 use Rattle.lower_rules.proofs.RemainderBounds.{remainder_bounds}
 use Rattle.lower_goals.proofs.exported.StartParts.{is_start}
-
--- ---- The post is at most 1
-
-record HasBody (p : TypedProcedure) : Type 0 where
-  pub acts : Acts
-  pub is : p.body ≡ Some acts
-
-program_body : (p : TypedProcedure) → IsProgram p → HasBody p
-program_body p h = go p.body refl h
-  where
-    go : (b : Option Acts) → p.body ≡ b → IsProgram (record p { body = b }) → HasBody p
-    go None e k = absurd (cc)
-    go (Some acts) e k = record { acts = acts; is = e }
-
-abbrev weak_goals : Acts → List BoundGoal
-weak_goals acts = BoundGoal.main ∷ (BoundGoal.pre ∷ (BoundGoal.post ∷ map BoundGoal.invariant (loop_numbers (in_order acts))))
-
-goals_of_weak : (p : TypedProcedure) (acts : Acts) → p.body ≡ Some acts → p.weak ≡ true → bound_goals p ≡ weak_goals acts
-goals_of_weak p acts e w = subst (λ b. bound_goals (record p { body = b }) ≡ weak_goals acts) (sym e) (subst (λ v. bound_goals (record p { body = Some acts; weak = v }) ≡ weak_goals acts) (sym w) refl)
-
-small_post : (ps : List TypedProcedure) (p : TypedProcedure) → p.weak ≡ true → IsProgram p → BoundGoalsHold ps p → HasSmallPost p
-small_post ps p weak program h s st =
-    let b = program_body p program in
-    (subst (Each (GoalHolds ps p)) (goals_of_weak p b.acts b.is weak) h).1.1.0 s Choices.stop st
 
 -- ---- The loop's turns are bounded
 
@@ -109,12 +83,12 @@ module _ (ps : List TypedProcedure) (answers : List Answer) (p q : ℕ) (pair : 
 
 -- ---- What they promise
 
-module _ (ps : List TypedProcedure) (p q : ℕ) (rules : Each (MeetsRules ps) ps) (there : p < length ps) (pair : RemainderPair (procedure_at ps p) (procedure_at ps q)) (bound : Bound ps p) (goals : BoundGoalsHold ps (procedure_at ps p)) (turns : HasBoundedTurns ps p pair.loop.head.number) where
+module _ (ps : List TypedProcedure) (p q : ℕ) (rules : Each (MeetsRules ps) ps) (there : p < length ps) (pair : RemainderPair (procedure_at ps p) (procedure_at ps q)) (small : HasSmallBound ps p) (turns : HasBoundedTurns ps p pair.loop.head.number) where
   positive : zeroʳ <ʳ pair.rank.0
   positive = (is_start ps (procedure_at ps p) (procedure_at ps q) (each_at (MeetsRules ps) ps p rules there) pair).fits.0
 
   bounds : StartHolds (procedure_at ps p) pair.loop.front pair.rank (procedure_at ps q).pre → (s : List Val) → IsState (procedure_at ps p) s → BoundsWithRemainder ps p pair.loop.front pair.loop.body pair.loop.behind pair.loop.head pair.rank.0 (value (procedure_at ps q).pre (environment s) Choices.stop) s
-  bounds h s st = remainder_bounds ps p rules there pair.loop pair.rank (<ʳ-≤ʳ zeroʳ pair.rank.0 positive) bound (small_post ps (procedure_at ps p) pair.loop.is.weak pair.loop.is.program goals) (bounded_turns ps p pair.loop pair.rank pair.ranked turns) s st (value (procedure_at ps q).pre (environment s) Choices.stop) (λ c. h s c st)
+  bounds h s st = remainder_bounds ps p rules there pair.loop pair.rank (<ʳ-≤ʳ zeroʳ pair.rank.0 positive) small.bound (λ s st. small.post s Choices.stop st) (bounded_turns ps p pair.loop pair.rank pair.ranked turns) s st (value (procedure_at ps q).pre (environment s) Choices.stop) (λ c. h s c st)
 
   pub is_promised : (e : Rational) → pair.rank.0 ≡ e → (d : Decision) → IsStarted (procedure_at ps p) (procedure_at ps q) pair.loop.front pair.rank d → IsPromised ps p q (answer_by e d)
   is_promised e step (decision.Proved tree) h = record {

@@ -10,9 +10,10 @@ use Rattle.heylo_formula.specs.Meaning.{value}
 use Rattle.heylo_formula.specs.State.{environment}
 use Rattle.heylo_formula.specs.declared.values.Val.{Val}
 use Rattle.heyvl_acts.specs.Acts.{TypedProcedure, procedure_at, variables}
+use Rattle.loop_encodings.specs.BoundGoals.{BoundGoal, GoalHolds}
 use Rattle.ranking_rule.specs.RankingGoals.{generated}
 use Rattle.ranking_rule.specs.Rankings.{RankedLoop}
-use Rattle.run_machine.specs.Bound.{IsState, RankedBy}
+use Rattle.run_machine.specs.Bound.{Bound, IsState, RankedBy}
 use Rattle.verdict_report.specs.declared.answers.Answer.{Answer}
 use Rattle.verdict_report.specs.declared.answers.RankVerdict.TheVariants.{Ranked}
 use Rattle.verdict_report.specs.declared.answers.Verdict.TheVariants.{Verified}
@@ -25,6 +26,11 @@ use Rattle.lower_goals.specs.declared.remainder_answers.Remainder.{Remainder}
 use Rattle.lower_goals.specs.declared.remainder_answers.Remainder.TheVariants.{Holds, NotVerified, NotRanked, Fails, Unknown, Shape}
 
 -- ---- What is asked of the answers
+
+-- The procedure with the number p has its bound over all runs, and its post is at most 1 in every state, for all choices.
+pub record HasSmallBound (ps : List TypedProcedure) (p : ℕ) : Type 0 where
+  pub bound : Bound ps p
+  pub post : GoalHolds ps (procedure_at ps p) BoundGoal.post
 
 -- The loop n of the procedure with the number p has a ranking, which bounds its turns: from every state of the procedure, under every
 -- scheduler and for every number of steps.

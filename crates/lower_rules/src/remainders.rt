@@ -4,14 +4,13 @@ ghost use Rattle.heylo_formula.specs.PlainTrees.{form_of};
 ghost use Rattle.heyvl_acts.specs.Acts.{procedure_at};
 ghost use Rattle.heyvl_acts.specs.FormSizes.{FormsWithin};
 ghost use Rattle.heyvl_acts.specs.PlainActs.{acts_of, procedures_of};
+ghost use Rattle.heyvl_acts.specs.Program.{IsProgram};
 ghost use Rattle.heyvl_acts.specs.Rules.{Each, MeetsAllRules};
-ghost use Rattle.loop_encodings.specs.BoundGoals.{BoundGoalsHold};
-ghost use Rattle.lower_rules.specs.RemainderAnswers.{HasBoundedTurns, IsPromised, IsRemainderAnswer};
+ghost use Rattle.lower_rules.specs.RemainderAnswers.{HasBoundedTurns, HasSmallBound, IsPromised, IsRemainderAnswer};
 ghost use Rattle.verdict_report.specs.VerdictsOn.{IsVerdictOn, IsVerdictOnLoop};
 ghost use Rattle.lower_goals.specs.LentRemainderPairs.{IsPairAs};
 ghost use Rattle.lower_rules.specs.internal.StartDecisions.{IsStarted, answer_by};
-ghost use Rattle.run_machine.specs.Bound.{Bound};
-ghost use Rattle.std.specs.Prelude.{IfOk, List, length, ℕ, ◌<◌, ◌^◌, ◌≡◌};
+ghost use Rattle.std.specs.Prelude.{IfOk, List, length, ℕ, ◌<◌, ◌^◌, ◌≡◌, true};
 ghost use Rattle.verdict_report.specs.declared.answers.Answer.{Answer as plain_answer};
 ghost use Rattle.verdict_report.specs.declared.answers.RankVerdict.TheVariants.{Ranked};
 ghost use Rattle.verdict_report.specs.declared.answers.Verdict.TheVariants.{Verified};
@@ -28,7 +27,8 @@ use std::alloc::{AllocError, Global};
 use verdict_report::Answer;
 use vp_generator::{generated_form_means_acts, prenexed_goals_speak_of_choices};
 
-/// What is found of the procedures p and q as a remainder pair, where these are the answers of the file: Shape where they are none;
+/// What is found of the procedures p and q as a remainder pair, where these are the answers of the file, of which only what they say of a
+/// weak program p that is verified, and of loops that are ranked, has to be true: Shape where they are none;
 /// else NotVerified where p isn't verified; else NotRanked where its loop isn't ranked; else by the goal that q's pre, over p's
 /// inputs, is at least what the acts before the loop, taken upward, make of the ranking. Want of memory is the one error.
 pub fn remainder(
@@ -43,8 +43,7 @@ pub fn remainder(
     requires rules { MeetsAllRules typed.now }
     requires small { Each (FormsWithin (2 ^ 27)) (procedures_of typed.now) }
     requires each { length answers.now ≡ length typed.now.procs.items }
-    requires verified { IsVerdictOn answers.now p Verified → Bound (procedures_of typed.now) p }
-    requires proved { IsVerdictOn answers.now p Verified → BoundGoalsHold (procedures_of typed.now) (procedure_at (procedures_of typed.now) p) }
+    requires verified { IsVerdictOn answers.now p Verified → (procedure_at (procedures_of typed.now) p).weak ≡ true → IsProgram (procedure_at (procedures_of typed.now) p) → HasSmallBound (procedures_of typed.now) p }
     requires ranked { (n : ℕ) → IsVerdictOnLoop answers.now p n Ranked → HasBoundedTurns (procedures_of typed.now) p n }
     ensures answer { IfOk result (λ answer. IsRemainderAnswer (procedures_of typed.now) answers.now p q answer) }
     ensures bound { IfOk result (λ answer. IsPromised (procedures_of typed.now) p q answer) }
@@ -70,8 +69,7 @@ fn of_pair<'a>(
     requires small { Each (FormsWithin (2 ^ 27)) (procedures_of typed.now) }
     requires each { length answers.now ≡ length typed.now.procs.items }
     requires pair { IsPairAs (procedure_at (procedures_of typed.now) p) (procedure_at (procedures_of typed.now) q) parts.now }
-    requires verified { IsVerdictOn answers.now p Verified → Bound (procedures_of typed.now) p }
-    requires proved { IsVerdictOn answers.now p Verified → BoundGoalsHold (procedures_of typed.now) (procedure_at (procedures_of typed.now) p) }
+    requires verified { IsVerdictOn answers.now p Verified → (procedure_at (procedures_of typed.now) p).weak ≡ true → IsProgram (procedure_at (procedures_of typed.now) p) → HasSmallBound (procedures_of typed.now) p }
     requires ranked { (n : ℕ) → IsVerdictOnLoop answers.now p n Ranked → HasBoundedTurns (procedures_of typed.now) p n }
     ensures answer { IfOk result (λ answer. IsRemainderAnswer (procedures_of typed.now) answers.now p q answer) }
     ensures bound { IfOk result (λ answer. IsPromised (procedures_of typed.now) p q answer) }
@@ -98,8 +96,7 @@ fn of_ranked<'a>(
     requires rules { MeetsAllRules typed.now }
     requires small { Each (FormsWithin (2 ^ 27)) (procedures_of typed.now) }
     requires pair { IsPairAs (procedure_at (procedures_of typed.now) p) (procedure_at (procedures_of typed.now) q) parts.now }
-    requires verified { Bound (procedures_of typed.now) p }
-    requires proved { BoundGoalsHold (procedures_of typed.now) (procedure_at (procedures_of typed.now) p) }
+    requires verified { HasSmallBound (procedures_of typed.now) p }
     requires ranked { HasBoundedTurns (procedures_of typed.now) p parts.now.number }
     ensures answer { (answers : List plain_answer) → IsVerdictOn answers p Verified → IsVerdictOnLoop answers p parts.now.number Ranked → IfOk result (λ answer. IsRemainderAnswer (procedures_of typed.now) answers p q answer) }
     ensures bound { IfOk result (λ answer. IsPromised (procedures_of typed.now) p q answer) }

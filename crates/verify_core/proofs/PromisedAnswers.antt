@@ -15,7 +15,7 @@ use Rattle.heylo_formula.specs.declared.goals.Made.TheVariants as made
 use Rattle.heyvl_acts.specs.Acts.{TypedProcedure, procedure_at}
 use Rattle.heyvl_acts.specs.Rules.{Each, MeetsRules}
 use Rattle.loop_encodings.proofs.exported.FromRules.{each_at}
-use Rattle.loop_encodings.specs.BoundGoals.{BoundGoal, bound_goals}
+use Rattle.loop_encodings.specs.BoundGoals.{bound_goals}
 use Rattle.loop_encodings.specs.EncodingLaws.{EncodingIsOver}
 use Rattle.ranking_rule.specs.Laws.{RankingGoalsAreGoals, RankingGoalsFail, RankingGoalsHold, RankingsBoundTurns}
 use Rattle.ranking_rule.specs.RankingGoals as ranking

@@ -1,5 +1,5 @@
 -- What comes of one goal of a bound, whatever comes of the procedure's other goals.
-use Rattle.std.proofs.Common.{List, [], length, subst, take, ◌<◌, ◌∷◌, ◌≡◌, ℕ}
+use Rattle.std.proofs.Common.{List, [], length, subst, take, ◌<◌, ◌∷◌, ℕ}
 use Rattle.std.specs.Borrow.{Bor}
 use Rattle.std.specs.List.{AllZip}
 use Rattle.goal_answers.specs.declared.named_goals.NamedGoal.{NamedGoal}
@@ -17,7 +17,6 @@ use Rattle.verify_core.specs.Outcomes.{all_outcomes}
 use Rattle.verify_core.specs.Questions.{goal, question}
 use Rattle.verify_core.specs.SingleGoals.{IsMeantAlone}
 use Rattle.verify_core.specs.declared.outcomes.GoalOutcome.{GoalOutcome}
-use Rattle.verify_core.specs.declared.outcomes.Outcome.TheVariants.{Falsified}
 use Rattle.verify_core.specs.declared.settled_goals.Way.TheVariants.{Check, Decide}
 use Rattle.verify_core.specs.internal.SettledGoals.{outcome_by}
 use Rattle.verify_core.proofs.AskedGoals.{goal_is, proper}

@@ -1,6 +1,6 @@
 use Rattle.heyvl_acts.specs.PlainActs.{procedure_of, procedures_of}
 use Rattle.heyvl_replies.proofs.SaidOfFiles.{one_for_each}
-use Rattle.heyvl_replies.proofs.PairReplies.{gives_bound, gives_goals, gives_turns, remainder_has_pair}
+use Rattle.heyvl_replies.proofs.PairReplies.{gives_bound, gives_turns, remainder_has_pair}
 use Rattle.heyvl_replies.proofs.ReportNeeds.{short_bytes}
 use Rattle.heyvl_replies.proofs.commands.remainder.of_pair.Goals as goal
 use Rattle.std.proofs.Common.{◌∙◌}
@@ -13,9 +13,6 @@ remainder-requires-clause-each c =
 
 pub remainder-requires-clause-verified : goal.remainder-requires-clause-verified
 remainder-requires-clause-verified c = rw c.deref.ensures.value (gives_bound (procedures_of c.args.typed.now) c.in_ok-whole.whole.answers.items c.args.p c.in_ok-whole.ensures.headline)
-
-pub remainder-requires-clause-proved : goal.remainder-requires-clause-proved
-remainder-requires-clause-proved c = rw c.deref.ensures.value (gives_goals (procedures_of c.args.typed.now) c.in_ok-whole.whole.answers.items c.args.p c.in_ok-whole.ensures.headline)
 
 pub remainder-requires-clause-ranked : goal.remainder-requires-clause-ranked
 remainder-requires-clause-ranked c = rw c.deref.ensures.value (λ n. gives_turns (procedures_of c.args.typed.now) c.in_ok-whole.whole.answers.items c.args.p n c.in_ok-whole.ensures.headline)
