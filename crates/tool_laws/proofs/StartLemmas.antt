@@ -52,6 +52,20 @@ asked_ends next made NoMemory settings has asks (inr out) = untouched_ends made.
 never_other : NextNameCounts → (made : Call) (NoMemory : Type 0) → HasNamesOf made → IsStartedRight made NoMemory → made.after.order ≡ other → ⊥
 never_other next made NoMemory has right e = untouched_ends made.before made.after has.fresh (right.no_start (λ settings asks. asked_ends next made NoMemory settings has asks (right.start settings asks) e)) e
 
+-- ---- Nothing is started without files
+
+turn_without_files : (files : Files) (names : Names) (before after : Moment) → files ≡ Files.none → before.order ≡ first 0 → IsReadInTurn files names before after → after.order ≡ first 0
+turn_without_files files names before after none fresh turn =
+    let untouched : IsUntouched before after = subst (λ (f : Files). IsReadInTurn f names before after) none turn in
+    untouched.order ∙ fresh
+
+none_without_files : (made : Call) (NoMemory : Type 0) → HasNamesOf made → IsStartedRight made NoMemory → (settings : Settings) → AskFor made.words settings → files_of settings ≡ Files.none → made.after.order ≡ first 0
+none_without_files made NoMemory has right settings asks none = by (right.start settings asks)
+  where
+    by : IsReadInTurn (files_of settings) made.names made.before made.after ⊎ (NoMemory × IsUntouched made.before made.after) → made.after.order ≡ first 0
+    by (inl turn) = turn_without_files (files_of settings) made.names made.before made.after none has.fresh turn
+    by (inr out) = out.1.order ∙ has.fresh
+
 -- ---- What the fault tells
 
 abbrev TellsFault : Fault → Moment → Type 0
@@ -109,4 +123,4 @@ outcome_tells next made done outcome has right (inl answered) =
 outcome_tells next made done outcome has right (inr out) = subst (λ (f : Fault). TellsFault f made.after) (sym out.fault) tt
 
 pub counted : NextNameCounts → StartsAreCounted
-counted next made done outcome has right answered = (outcome_tells next made done outcome has right answered, never_other next made (outcome.fault ≡ faults.Memory) has right)
+counted next made done outcome has right answered = (outcome_tells next made done outcome has right answered, (never_other next made (outcome.fault ≡ faults.Memory) has right, none_without_files made (outcome.fault ≡ faults.Memory) has right))

@@ -38,8 +38,9 @@ pub record HasNamesOf (made : Call) : Type 0 where
   pub fresh : made.before.order ≡ first 0
   pub files : (settings : Settings) → AskFor made.words settings → AreFirst (files_of settings) made.names.order
 
--- As many of them were started as the fault tells, and in their order.
+-- As many of them were started as the fault tells, and in their order; none for a command without files, such as `gen`, whatever the fault.
 abbrev pub StartsAreCounted : Type 0
 StartsAreCounted =
     (made : Call) (done : Writing) (outcome : Outcome) → HasNamesOf made → IsStartedRight made (outcome.fault ≡ faults.Memory) → IsAnswered made done outcome ⊎ IsOutOfMemory done outcome
-    → IfSome (starts_of outcome.fault) (λ n. made.after.order ≡ first n) × (made.after.order ≢ other)
+    → IfSome (starts_of outcome.fault) (λ n. made.after.order ≡ first n)
+    × ((made.after.order ≢ other) × ((settings : Settings) → AskFor made.words settings → files_of settings ≡ Files.none → made.after.order ≡ first 0))

@@ -5,8 +5,8 @@ ghost use Rattle.tool_laws.specs.StartLaws.{StartsAreCounted};
 use heyvl_io::names_in_order;
 
 /// Of a source that tells its order, has started nothing, and whose first names are those of the words, none is started where the
-/// words are no command; the file where it can't be read or is too long; both where the second text can't be or is; and nothing else
-/// ever.
+/// words are no command, or those of a command without files; the file where it can't be read or is too long; both where the second
+/// text can't be or is; and nothing else ever.
 pub fn starts_are_counted()
     ensures { StartsAreCounted }
 {
