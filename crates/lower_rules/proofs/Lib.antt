@@ -4,6 +4,7 @@ pub mod Straight
 pub mod OmegaBounds
 pub mod CalmShapes
 pub mod RaisedBounds
+pub mod OneParts
 pub mod RemainderBounds
 mod Examples
 pub mod VerdictsOn

@@ -2,7 +2,6 @@
 use Rattle.std.proofs.Common.{◌≡◌, ◌∙◌, ◌<◌, ℕ, refl, sym, ap, subst, List, [], ◌∷◌, ◌++◌, length}
 use Rattle.std.specs.Prelude.{Some, if◌then◌else◌}
 use Rattle.heyvl_num.specs.Rational.{Rational, zeroʳ, ◌<ʳ◌}
-use Rattle.heyvl_num.proofs.exported.Signs.{<ʳ-≤ʳ}
 use Rattle.heylo_formula.specs.Choices.{Choices}
 use Rattle.heylo_formula.specs.Formula.{Form}
 use Rattle.heylo_formula.specs.Meaning.{value}
@@ -88,7 +87,7 @@ module _ (ps : List TypedProcedure) (p q : ℕ) (rules : Each (MeetsRules ps) ps
   positive = (is_start ps (procedure_at ps p) (procedure_at ps q) (each_at (MeetsRules ps) ps p rules there) pair).fits.0
 
   bounds : StartHolds (procedure_at ps p) pair.loop.front pair.rank (procedure_at ps q).pre → (s : List Val) → IsState (procedure_at ps p) s → BoundsWithRemainder ps p pair.loop.front pair.loop.body pair.loop.behind pair.loop.head pair.rank.0 (value (procedure_at ps q).pre (environment s) Choices.stop) s
-  bounds h s st = remainder_bounds ps p rules there pair.loop pair.rank (<ʳ-≤ʳ zeroʳ pair.rank.0 positive) small.bound (λ s st. small.post s Choices.stop st) (bounded_turns ps p pair.loop pair.rank pair.ranked turns) s st (value (procedure_at ps q).pre (environment s) Choices.stop) (λ c. h s c st)
+  bounds h s st = remainder_bounds ps p rules there pair.loop pair.rank positive small.bound (λ s st. small.post s Choices.stop st) (bounded_turns ps p pair.loop pair.rank pair.ranked turns) s st (value (procedure_at ps q).pre (environment s) Choices.stop) (λ c. h s c st)
 
   pub is_promised : (e : Rational) → pair.rank.0 ≡ e → (d : Decision) → IsStarted (procedure_at ps p) (procedure_at ps q) pair.loop.front pair.rank d → IsPromised ps p q (answer_by e d)
   is_promised e step (decision.Proved tree) h = record {

@@ -5,11 +5,12 @@ use Rattle.std.specs.Prelude.{pos, if◌then◌else◌}
 use borrow.Author.Differences.{ints}
 use Rattle.std.proofs.lemmas.Bool.Decides.{leb_tells}
 use Prim.Native.Nat.{zero, suc}
-use Rattle.heyvl_num.specs.Rational.{Rational, ratio, oneʳ, ◌*ʳ◌}
+use Rattle.heyvl_num.specs.Rational.{Rational, ratio, zeroʳ, oneʳ, ◌*ʳ◌, ◌≤ʳ◌}
 use Rattle.heyvl_num.specs.Value.{Value, zeroᵛ, oneᵛ, ◌+ᵛ◌, ◌*ᵛ◌, ◌≤ᵛ◌}
 use Rattle.heyvl_num.specs.Value.Value.{finite}
 use Rattle.heyvl_num.specs.WeightedSums.{weighted_sum, scaled}
 use Rattle.heyvl_num.proofs.exported.Rationals.{ratio-≤, ratio_nonnegative, zero-≤ʳ-one}
+use Rattle.heyvl_num.proofs.exported.Signs.{<ʳ-≤ʳ}
 use Rattle.heyvl_num.proofs.exported.Values.{≤ᵛ_refl, ≤ᵛ_trans, +ᵛ_mono, +ᵛ-zero, zero-+ᵛ, *ᵛ-zero, *ᵛ-one, scale_mono, scale_scale, order_finite, finite_nonnegative}
 use Rattle.heyvl_num.proofs.exported.WeightedSums.{weighted_sum-+, weighted_sum-factor}
 use Rattle.heylo_formula.specs.Choices.{Choices}
@@ -23,7 +24,7 @@ use Rattle.heyvl_acts.specs.Length.{length_of, length_of_act}
 use Rattle.heyvl_acts.specs.Places.{in_order, inside}
 use Rattle.heyvl_acts.specs.Rules.{Each, MeetsRules}
 use Rattle.heyvl_acts.specs.Tosses.{toss_parts}
-use Rattle.run_machine.specs.Bound.{IsState, BoundBy, RankedBy, at_test}
+use Rattle.run_machine.specs.Bound.{IsState, Bound, BoundBy, RankedBy, at_test}
 use Rattle.run_machine.specs.Configurations.{Item, Frame, Config, Outcomes, running, push, begin}
 use Rattle.run_machine.specs.Runs.{runs, spread}
 use Rattle.run_machine.specs.Scheduler.{Tree, Forest, decision, under, first, rest}
@@ -31,9 +32,10 @@ use Rattle.run_machine.specs.Step.{Decision, sure, moved, turned, counted, one_m
 use Rattle.run_machine.specs.Sums.{ended, worth, sum_of, turns_in}
 use Rattle.run_machine.proofs.exported.Equations.{runs-zero, runs-next, push_join, one_times, worth-one, worth-sure}
 use Rattle.heyvl_acts.specs.Upward.{upward}
-use Rattle.lower_rules.specs.CollectedSums.{settled}
-use Rattle.lower_goals.specs.OneLoop.{OneLoop, steps_from_test}
-use Rattle.lower_rules.specs.Remainder.{RemainderBoundsRuns}
+use Rattle.lower_rules.specs.CollectedSums.{collected, settled}
+use Rattle.lower_goals.specs.OneLoop.{OneLoop, steps, steps_from_test}
+use Rattle.lower_rules.specs.Remainder.{HasSmallPost, RemainderBoundsRuns, one_part}
+use Rattle.lower_rules.proofs.OneParts.{part_of}
 use Rattle.lower_goals.proofs.exported.Calm.{AreCalm, IsCalm, CalmParts, calm_parts}
 use Rattle.lower_rules.proofs.CalmSteps.{ruled_parts, some_length}
 use Rattle.lower_goals.proofs.exported.LoopParts.{OfParts}
@@ -277,8 +279,13 @@ module _ (ps : List TypedProcedure) (rules : Each (MeetsRules ps) ps) (p : ℕ) 
 
 -- ---- The whole
 
-pub remainder_bounds : RemainderBoundsRuns
-remainder_bounds ps p rules there l r from_zero bound small ranked s st u above m n few d nonnegative part t = subst (λ c. value (procedure_at ps p).pre (environment s) Choices.stop ≤ᵛ weighted_sum (settled m l.head.number (procedure_at ps p).post) (runs ps n c t) +ᵛ (finite d *ᵛ u)) (sym begins_there) (≤ᵛ_trans _ _ _ weak_bound (≤ᵛ_trans _ _ _ parted (+ᵛ_mono _ _ _ _ (≤ᵛ_refl _) few_over)))
+-- The bound with any d that gives 1 with the step times m, where the step isn't below 0.
+abbrev BoundedByPart : Type 0
+BoundedByPart = (ps : List TypedProcedure) (p : ℕ) → Each (MeetsRules ps) ps → p < length ps → (l : OneLoop (procedure_at ps p)) (r : Rational × Form) → zeroʳ ≤ʳ r.0 → Bound ps p → HasSmallPost (procedure_at ps p) → RankedBy ps p l.head l.body r → (s : List Val) → IsState (procedure_at ps p) s → (u : Value) → ((c : Choices) → forward (upward l.front) (value r.1) (environment s) c ≤ᵛ u)
+    → (m n : ℕ) → steps l.front l.body l.behind m ≤ n → (d : Rational) → zeroʳ ≤ʳ d → d *ʳ (r.0 *ʳ ratio (pos m) 1) ≡ oneʳ → (t : Tree) → value (procedure_at ps p).pre (environment s) Choices.stop ≤ᵛ collected m l.head.number (procedure_at ps p).post (runs ps n (begin ps p s) t) +ᵛ (finite d *ᵛ u)
+
+bounded_by_part : BoundedByPart
+bounded_by_part ps p rules there l r from_zero bound small ranked s st u above m n few d nonnegative part t = subst (λ c. value (procedure_at ps p).pre (environment s) Choices.stop ≤ᵛ weighted_sum (settled m l.head.number (procedure_at ps p).post) (runs ps n c t) +ᵛ (finite d *ᵛ u)) (sym begins_there) (≤ᵛ_trans _ _ _ weak_bound (≤ᵛ_trans _ _ _ parted (+ᵛ_mono _ _ _ _ (≤ᵛ_refl _) few_over)))
   where
     start : Config
     start = before ps p l.front (as_act ps rules p there l m) s zeroᵛ (λ k. 0)
@@ -315,3 +322,8 @@ remainder_bounds ps p rules there l r from_zero bound small ranked s st u above 
 
     few_over : weighted_sum (over ps rules p there l m) all ≤ᵛ finite d *ᵛ u
     few_over = subst (λ x. x ≤ᵛ finite d *ᵛ u) undone (scale_mono d _ _ nonnegative (≤ᵛ_trans _ _ _ (scale_mono r.0 _ _ from_zero counted_over) stepped_turns))
+
+pub remainder_bounds : RemainderBoundsRuns
+remainder_bounds ps p rules there l r above_zero bound small ranked s st u above m n some few t =
+    let part = part_of r.0 m above_zero some in
+    bounded_by_part ps p rules there l r (<ʳ-≤ʳ zeroʳ r.0 above_zero) bound small ranked s st u above m n few (one_part r.0 m) part.nonnegative part.undoes t
