@@ -33,7 +33,7 @@ whole_times e n m h =
     ∙ (ap (λ k. ratio k (e.den * 1)) (times n m) ∙ ap (λ d. ratio (pos (n * m)) d) (omega arith)))
 
 -- The part isn't below 0, and gives 1 with the fraction times the number.
-record IsPart (e : Rational) (m : ℕ) (part : Rational) : Type 0 where
+pub record IsPart (e : Rational) (m : ℕ) (part : Rational) : Type 0 where
   pub nonnegative : zeroʳ ≤ʳ part
   pub undoes : part *ʳ (e *ʳ ratio (pos m) 1) ≡ oneʳ
 
