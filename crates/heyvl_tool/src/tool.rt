@@ -21,6 +21,7 @@ use crate::moments::{Called, Written};
 use crate::{Fault, Files, Outcome, Response, Settings, SettingsStop, Text};
 use command_line::{USAGE, settings};
 use heyvl_io::{ReadStop, Sink, Source, read_all, write_all};
+use heyvl_replies::commands::pgcl::programs_are_translated;
 use heyvl_replies::message;
 use resolved_laws::resolved_files_meet_the_rules;
 use run_unroller::unrolled_sums_are_meant;
@@ -66,6 +67,7 @@ pub fn run_tool<F: Source, K: Sink>(
     resolved_files_meet_the_rules();
     unrolled_sums_are_meant();
     program_files_have_sums();
+    programs_are_translated();
     broken_bounds_are_never_verified();
     match response_to(alloc, words, source) {
         Ok(response) => deliver(response, sink),

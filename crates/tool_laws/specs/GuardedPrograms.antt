@@ -2,6 +2,8 @@
 -- Source: this project's own.
 use Rattle.spelled_files.specs.Programs.{IsProgramBounded, IsProgramFile, KeepsSumsOf, program_of}
 use Rattle.heyvl_print.specs.Canonical.{canonical_text}
+use Rattle.heyvl_print.specs.WithoutPlaces.{SameButPlaces}
+use Rattle.heyvl_syntax.specs.Grammar.{Spells}
 use Rattle.heyvl_syntax.specs.Procedures.{Procedure}
 use Rattle.tool_laws.specs.Calls.{AreRead, Call}
 use Rattle.tool_laws.specs.Headline.{IsVerifiedFrom}
@@ -25,7 +27,13 @@ IsBoundWhereVerified bytes file becomes =
     (settings : Settings) (later : Call) (end : Writing) (told : Outcome) (v : IsVerifiedFrom settings later end told)
     → verified_text settings v.bytes ≡ canonical_text file → IsVerdictOn told.answers.items 0 Verified → IsProgramBounded bytes file becomes
 
--- A file was written, whole and nothing else, in its canonical text, and it has the sums of the program that was read. The bytes that
+-- The canonical text of a file spells this file again, up to places.
+pub record IsSpelledAgain (file : List Procedure) : Type 0 where
+  pub other : List Procedure
+  pub spells : Spells (canonical_text file) other
+  pub same : SameButPlaces file other
+
+-- A file was written, whole and nothing else, in its canonical text, which spells it again, and it has the sums of the program that was read. The bytes that
 -- were read are those that the source holds where it tells them. They spell a program of guarded commands, which becomes this file, and
 -- the file has no static fault. The upper sums of the program's runs, by the steps of guarded commands, are those of `main` of the
 -- file, and of each file that the written text spells; where the bound of `main` holds in one of these, each sum is at most the program's
@@ -35,6 +43,7 @@ pub record IsTranslatedFrom (name : List ℕ) (made : Call) (done : Writing) (ou
   pub read : AreRead (Files.one name) made.names bytes [] made.before made.after
   pub file : List Procedure
   pub becomes : IsProgramFile bytes file
+  pub spelled : IsSpelledAgain file
   pub sums : KeepsSumsOf (program_of bytes file becomes) file
   pub written : IsWritten (printed file) done outcome
   pub verified : IsBoundWhereVerified bytes file becomes

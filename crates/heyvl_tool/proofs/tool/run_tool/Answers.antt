@@ -12,7 +12,7 @@ pub returns-in-Ok-clause-summed : goal.returns-in-Ok-clause-summed
 returns-in-Ok-clause-summed g c = sums_meant c.unrolled_sums_are_meant.ensures c.resolved_files_meet_the_rules.ensures.procedures _ _ _ _ c.in-Ok.ensures.cause c.deliver.ensures.delivered
 
 pub returns-in-Ok-clause-translated : goal.returns-in-Ok-clause-translated
-returns-in-Ok-clause-translated g c = programs_meant c.program_files_have_sums.ensures _ _ _ _ c.in-Ok.ensures.cause c.deliver.ensures.delivered
+returns-in-Ok-clause-translated g c = programs_meant c.program_files_have_sums.ensures c.programs_are_translated.ensures.translated _ _ _ _ c.in-Ok.ensures.cause c.deliver.ensures.delivered
 
 pub returns-in-Ok-clause-bounded : goal.returns-in-Ok-clause-bounded
 returns-in-Ok-clause-bounded g c = bounds_meant _ _ _ _ c.in-Ok.ensures.cause c.deliver.ensures.delivered
