@@ -37,7 +37,7 @@ sum_too_great rule rows vars c e n =
 pub settled : (rows : List Row) (vars : List Ty) (e : Elim) → IsAnswer rows vars e → Settles rows e
 settled rows vars (NoSolution ms) h = λ s. contradiction_unmet ms.items rows h ((solvable_is rows).0 s)
 settled rows vars (Point point) h = record { at_values = λ x. number_of (environment point.items x); meets = h.1 }
-settled rows vars (Fraction b) h = h.solvable
+settled rows vars (Fraction b) h = h.0.solvable
 settled rows vars (Rows steps count) h = tt
 settled rows vars Bits h = tt
 

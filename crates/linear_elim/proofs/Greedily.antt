@@ -1,6 +1,6 @@
 -- The greedy choice along the steps of an elimination that stands, from the last step on.
 use Rattle.std.proofs.Common.{◌≡◌, ℕ, ◌+◌, ◌<◌, List, [], ◌∷◌, ◌++◌, length, get_or, reverse, refl, sym, ap, ap₂, ◌∙◌, subst, arith, Bool, true, false, cond, eqb, ltb, ◌||◌}
-use Rattle.std.specs.Prelude.{ℤ, Option, Some}
+use Rattle.std.specs.Prelude.{ℤ, Option, Some, IfSome}
 use Rattle.std.specs.List.{All, list_any, fold}
 use Prim.Native.Nat.{zero, suc}
 use Rattle.std.proofs.lemmas.Bool.{eqb-true}
@@ -300,6 +300,13 @@ module _ (rows : List Row) (vars : List Ty) (steps : List Step) (h : IsEliminate
       both_ends : lo ≡ Some low → hi ≡ Some high → between Low lo hi ≡ record { low = Some low; high = Some high }
       both_ends e g = ap₂ (between Low) e g
 
+  -- the two ends are below the bound
+  pub narrow_here : (low high : End) → IsNextPick s cs (types_in vars s.var) (Breaks low high) → (fits low.place ≡ true) × (fits high.place ≡ true)
+  narrow_here low high (between_ends lo hi _ l u k) = let p = picked_here lo hi (Breaks low high) l u k in (of_some lo low p.1 l.narrow, of_some hi high p.2 u.narrow)
+    where
+      of_some : (o : Option End) (e : End) → o ≡ Some e → IfSome o (λ d. fits d.place ≡ true) → fits e.place ≡ true
+      of_some o e q h = subst (λ x. IfSome x (λ d. fits d.place ≡ true)) q h
+
   -- some value lies between the two ends
   pub ordered_here : (low high : End) → IsNextPick s cs (types_in vars s.var) (Breaks low high) → low.place ≤ʳ high.place
   ordered_here low high (between_ends lo hi _ l u k) =
@@ -352,4 +359,4 @@ module _ (rows : List Row) (vars : List Ty) (steps : List Step) (h : IsEliminate
       from_each (v ∷ vs) h = All-cons (λ v. fits (number_of v) ≡ true) v vs (h zero (omega arith)) (from_each vs (λ x l. h (suc x) (omega (arith, l))))
 
   pub point_answer : (point : List Val) → IsStateOf vars cs point → IsGreedyPoint rows vars point × MeetsAll point rows × AreNarrow point
-  point_answer point p = (record { chosen = cs; choice = all_chosen; state = p }, point_meets point p, all_narrow point p)
+  point_answer point p = (record { solvable = solved rows vars steps h; chosen = cs; choice = all_chosen; state = p }, point_meets point p, all_narrow point p)

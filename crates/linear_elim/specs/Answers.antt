@@ -54,6 +54,11 @@ pub record IsBreak (rows : List Row) (vars : List Ty) (b : Broken) : Type 0 wher
   pub earlier : b.earlier.items ≡ values_of chosen
   pub ordered : b.low ≤ʳ b.high
 
+-- The numerators and denominators of the two ends at which the choice breaks are below 2^62 in absolute value.
+pub record HasNarrowEnds (b : Broken) : Type 0 where
+  pub low : fits b.low ≡ true
+  pub high : fits b.high ≡ true
+
 -- No partial sum of the combination reaches 2^126.
 pub record IsWide (ms : List (ℕ × ℕ)) (rows : List Row) : Type 0 where
   pub coefficients : (x : ℕ) → IsWideThroughout (λ r. coefficient x r.terms) ms rows
@@ -80,7 +85,7 @@ pub data IsShortLimited (rows : List Row) (vars : List Ty) : Type 0 where
 abbrev pub IsAnswer : List Row → List Ty → Elim → Type 0
 IsAnswer rows vars (NoSolution ms) = IsContradiction ms.items rows
 IsAnswer rows vars (Point point) = IsGreedyPoint rows vars point.items × MeetsAll point.items rows × AreNarrow point.items
-IsAnswer rows vars (Fraction b) = IsBreak rows vars b
+IsAnswer rows vars (Fraction b) = IsBreak rows vars b × HasNarrowEnds b
 IsAnswer rows vars (Rows steps count) = (eliminated rows vars ≡ plain.Outcome.too_many steps count) × IsShortLimited rows vars
 IsAnswer rows vars Bits = IsTooGreat rows vars × IsShortLimited rows vars
 

@@ -275,7 +275,7 @@ same_lists (x ∷ xs) [] e h = absurd (omega (arith, e))
 same_lists (x ∷ xs) (y ∷ ys) e h = ap₂ (λ z zs. z ∷ zs) (h zero (omega arith)) (same_lists xs ys (omega (arith, e)) (λ n l. h (suc n) (omega (arith, l))))
 
 pub points_unique : PointsAreUnique
-points_unique rows vars p q s a b =
-    let e : Greedy.chose a.chosen ≡ Greedy.chose b.chosen = choices_unique rows vars (Greedy.chose a.chosen) (Greedy.chose b.chosen) s a.choice b.choice in
+points_unique rows vars p q a b =
+    let e : Greedy.chose a.chosen ≡ Greedy.chose b.chosen = choices_unique rows vars (Greedy.chose a.chosen) (Greedy.chose b.chosen) a.solvable a.choice b.choice in
     let c : a.chosen ≡ b.chosen = cc in
     same_lists p q (a.state.each ∙ sym b.state.each) (λ x l. let m = subst (λ n. x < n) a.state.each l in a.state.values x m ∙ ap (λ ds. value_for (types_in vars x) (chosen_value x ds)) c ∙ sym (b.state.values x m))

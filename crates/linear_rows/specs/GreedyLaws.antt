@@ -11,6 +11,6 @@ use Rattle.linear_rows.specs.GreedyPoint.{Greedy, ChoosesFrom, IsGreedyPoint}
 abbrev pub ChoicesAreUnique : Type 0
 ChoicesAreUnique = (rows : List Row) (vars : List Ty) (a b : Greedy) → IsSolvable rows → ChoosesFrom rows vars a → ChoosesFrom rows vars b → a ≡ b
 
--- Solvable rows have at most one greedy point.
+-- Rows have at most one greedy point.
 abbrev pub PointsAreUnique : Type 0
-PointsAreUnique = (rows : List Row) (vars : List Ty) (p q : List Val) → IsSolvable rows → IsGreedyPoint rows vars p → IsGreedyPoint rows vars q → p ≡ q
+PointsAreUnique = (rows : List Row) (vars : List Ty) (p q : List Val) → IsGreedyPoint rows vars p → IsGreedyPoint rows vars q → p ≡ q

@@ -9,7 +9,7 @@ use Rattle.heylo_formula.specs.declared.values.Val.TheVariants.{Truth, Num}
 use Rattle.heylo_formula.specs.Typing.{types_in}
 use Rattle.linear_rows.specs.VariableTypes.{is_integral}
 use Rattle.linear_rows.specs.Row.{Row}
-use Rattle.linear_rows.specs.Solutions.{MeetsAt}
+use Rattle.linear_rows.specs.Solutions.{MeetsAt, IsSolvable}
 use Rattle.linear_rows.specs.VariableOrder.{order_of}
 
 -- Some fractions for the variables that aren't chosen complete the chosen values to a solution.
@@ -100,8 +100,9 @@ pub record IsStateOf (vars : List Ty) (chosen : List (ℕ × Rational)) (point :
   pub each : length point ≡ length vars
   pub values : (x : ℕ) → x < length vars → get_or point x (Truth false) ≡ value_for (types_in vars x) (chosen_value x chosen)
 
--- The state is the greedy point of the rows.
+-- The rows are solvable, and the state is their greedy point.
 pub record IsGreedyPoint (rows : List Row) (vars : List Ty) (point : List Val) : Type 0 where
+  pub solvable : IsSolvable rows
   pub chosen : List (ℕ × Rational)
   pub choice : ChoosesFrom rows vars (chose chosen)
   pub state : IsStateOf vars chosen point
