@@ -100,7 +100,7 @@ wide = Form.sum (number 170141183460469231731687303715884105727) (number 1)
 -- As the pre, it stops the search at once; as the second reward, it stops the second step.
 wide_pre : StopsAt (unrolled_in pays 0 [] []) (exact_value wide []) 9 0 (unrolling_of (unrolled.Bits 1))
 unfolding halfʳ ratio gcd gcd_steps zeroʳ oneʳ zeroᵛ oneᵛ ◌+ʳ◌ ◌*ʳ◌ exact_sum sum_fits
-wide_pre = by_number (omega arith) (no_pre refl) refl
+wide_pre = by_number (omega arith) (no_pre refl) refl (λ bound e. tt)
 
 abbrev wide_pays : List TypedProcedure
 wide_pays = procedure 0 [] [] (number 1) (number 0) (Act.reward (number 1) place ∷ Act.reward wide place ∷ []) ∷ []

@@ -85,7 +85,7 @@ module _ (sums : UnrolledSumsAreMeant) (grow : ScriptedSumsGrow) (values : Exact
       none k =
           let is : k.bound ≡ value_of bound = same_bound k.bound (value_of bound) (sym k.given ∙ h.given) in
           none_above k.steps (suc n) (value_of bound) (let l = k.few in omega (arith, l)) (value_of sum, (h.summed, h.within)) (subst (λ b. IsAbove us b k.steps) is k.above)
-  decided n (Stopped s answer) (StopsAt.by_number few short same) fit = absurd (fit s few short)
+  decided n (Stopped s answer) (StopsAt.by_number few short same before) fit = absurd (fit s few short)
   decided n (Stopped s answer) (StopsAt.by_step bound one few names same given before) fit = (none, no_sums n few)
     where
       no_sums : (k : ℕ) → s ≤ k → GivesSums (us k) → ⊥

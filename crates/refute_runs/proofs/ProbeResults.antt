@@ -98,6 +98,12 @@ comes us bound m n (Stopped s answer) h l = go (subst (λ k. IsBarred us bound k
     few : s ≤ n
     few = let k = h.few in let e = is in omega (arith, k, e, l)
 
+    one_bound : (b : Value) → Some bound ≡ Some b → bound ≡ b
+    one_bound b e = cc
+
+    before : IsWithinBefore us bound s
+    before = subst (IsWithinBefore us bound) (sym is) h.before
+
     go : IsBarred us bound s (unrolling_of answer) → StopsAt us (Some bound) n s (unrolling_of answer)
-    go (IsBarred.by_step one names same) = StopsAt.by_step bound one few names same refl (subst (IsWithinBefore us bound) (sym is) h.before)
-    go (IsBarred.by_number short same) = StopsAt.by_number few short same
+    go (IsBarred.by_step one names same) = StopsAt.by_step bound one few names same refl before
+    go (IsBarred.by_number short same) = StopsAt.by_number few short same (λ b e. subst (λ v. IsWithinBefore us v s) (one_bound b e) before)

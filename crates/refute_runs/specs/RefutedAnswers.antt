@@ -30,10 +30,10 @@ pub record StaysWithin (us : Unrollings) (pre : Option Value) (n : ℕ) (sum bou
   pub summed : IsSum us n sum
   pub within : sum ≤ᵛ bound
 
--- Step s is stopped, and before it the sum isn't above the pre; or after s steps a number doesn't fit, which counts as one step more.
+-- Step s is stopped, or after s steps a number doesn't fit, which counts as one step more. With one step fewer the sum isn't above the pre.
 pub data StopsAt (us : Unrollings) (pre : Option Value) (n s : ℕ) (answer : Unrolling) : Type 0 where
   by_step : (bound : Value) → 1 ≤ s → s ≤ n → NamesStep (us s) s → answer ≡ us s → pre ≡ Some bound → IsWithinBefore us bound s → StopsAt us pre n s answer
-  by_number : s ≤ n → IsShort us pre s → answer ≡ unrolling_of (unrolled.Bits (s + 1)) → StopsAt us pre n s answer
+  by_number : s ≤ n → IsShort us pre s → answer ≡ unrolling_of (unrolled.Bits (s + 1)) → ((bound : Value) → pre ≡ Some bound → IsWithinBefore us bound s) → StopsAt us pre n s answer
 
 -- The answer may come.
 abbrev pub MayCome : Unrollings → Option Value → ℕ → Refuted → Type 0
