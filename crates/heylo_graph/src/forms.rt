@@ -87,10 +87,13 @@ impl Graph {
                 let (left, right) = self.both_forms(*a, *b)?;
                 Ok(Term::Num(Form::Select(test, left, right)))
             }
-            Node::Bind(up, y, name, ty, a) => {
-                let body = self.form_boxed(*a)?;
-                Ok(Term::Num(Form::Bind(*up, *y, *name, *ty, body)))
-            }
+            Node::Bind(up, y, name, ty, a) => Ok(Term::Num(Form::Bind(
+                *up,
+                *y,
+                *name,
+                *ty,
+                self.form_boxed(*a)?,
+            ))),
             Node::Truth(b) => Ok(Term::Truth(Cond::Const(*b))),
             Node::Flag(x) => Ok(Term::Truth(Cond::Var(*x))),
             Node::Not(g) => Ok(Term::Truth(Cond::Not(self.cond_boxed(*g)?))),

@@ -158,7 +158,10 @@ impl Graph {
         match cond {
             Cond::Const(b) => Ok(Node::Truth(*b)),
             Cond::Var(x) => Ok(Node::Flag(*x)),
-            Cond::Not(g) => Ok(Node::Not(self.put_part(g)?)),
+            Cond::Not(g) => {
+                let part = self.put_part(g)?;
+                Ok(Node::Not(part))
+            }
             Cond::And(g, h) => {
                 let (left, right) = self.put_conds(g, h)?;
                 Ok(Node::And(left, right))
