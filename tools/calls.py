@@ -6,9 +6,11 @@ import shutil
 import signal
 import subprocess
 import sys
+import threading
 import typing
 
 ROOT = os.path.dirname(os.path.dirname(os.path.abspath(__file__)))
+LONGEST = 2**20
 FAULT = re.compile(r"(\d+):(\d+): (fault \d+: .*)\n")
 HELP = "the program: this one, else that of $CAESAR, else `caesar` on PATH, else the one built in this repository"
 
@@ -25,11 +27,30 @@ class Arguments(argparse.ArgumentParser):
     """The arguments of a tool, whose help is the text of its module."""
 
     def __init__(self, name, text):
-        super().__init__(prog=name, description=text, formatter_class=argparse.RawDescriptionHelpFormatter)
+        layout = argparse.RawDescriptionHelpFormatter
+        super().__init__(prog=name, description=text, formatter_class=layout)
         self.add_argument("--caesar", metavar="PROGRAM", help=HELP)
 
     def error(self, message):
         raise Refusal(f"{self.prog}: {message}; see {self.prog} --help", 4)
+
+
+def count(text):
+    """Returns the integer above 0 that an argument gives."""
+    if not (text.isascii() and text.isdigit() and 0 < int(text[:10]) < 10**9):
+        raise argparse.ArgumentTypeError("N is an integer above 0")
+    return int(text)
+
+
+def seconds(text):
+    """Returns the number of seconds above 0 that an argument gives."""
+    try:
+        found = float(text)
+    except ValueError:
+        found = 0
+    if not 0 < found < 10**9:
+        raise argparse.ArgumentTypeError("N is a number above 0")
+    return found
 
 
 class Answer(typing.NamedTuple):
@@ -37,6 +58,9 @@ class Answer(typing.NamedTuple):
 
     status: typing.Optional[int]
     output: str
+
+
+UNDER_WAY, ENDING = set(), threading.Event()
 
 
 def find_program(named=None):
@@ -51,20 +75,47 @@ def find_program(named=None):
 
 
 def argument(path):
-    """Returns a path as the program takes it, which refuses arguments that begin with `-`."""
+    """Returns a path as the program takes it, which refuses arguments that begin with `-`. A name that the program does
+    not take is refused, and so is a pipe, as it can be read only once."""
+    if os.path.exists(path) and not os.path.isfile(path):
+        raise Refusal(f"{path}: not a regular file", 5)
+    if not path.isascii() and decoded(encoded(path).decode("utf-8", "ignore").encode()) != path:
+        raise Refusal(f"{path}: the name is not UTF-8, and the program takes no other", 5)
     return os.path.join(".", path) if path.startswith("-") else path
 
 
 def call(program, words, folder=None, seconds=None):
     """Calls the program and returns its answer; one that a signal ended has status 7, as where memory runs out."""
     try:
-        ended = subprocess.run([program, *words], cwd=folder, stdin=subprocess.DEVNULL, stdout=subprocess.PIPE,
-                               stderr=subprocess.STDOUT, timeout=seconds)
-    except subprocess.TimeoutExpired:
-        return Answer(None, "")
+        called = subprocess.Popen([program, *words], cwd=folder, stdin=subprocess.DEVNULL, stdout=subprocess.PIPE,
+                                  stderr=subprocess.STDOUT)
     except OSError as error:
         raise Refusal(f"{program}: {error.strerror}", 4) from error
-    return Answer(ended.returncode if ended.returncode >= 0 else 7, decoded(ended.stdout))
+    UNDER_WAY.add(called)
+    try:
+        if ENDING.is_set():
+            called.kill()
+        output = called.communicate(timeout=seconds)[0]
+    except subprocess.TimeoutExpired:
+        return Answer(None, "")
+    finally:
+        UNDER_WAY.discard(called)
+        end(called)
+    return Answer(called.returncode if called.returncode >= 0 else 7, decoded(output))
+
+
+def end(called):
+    """Ends a call, where it still runs."""
+    called.kill()
+    called.stdout.close()
+    called.wait()
+
+
+def end_calls():
+    """Ends the calls that other threads wait for, and those that they begin now."""
+    ENDING.set()
+    for called in list(UNDER_WAY):
+        called.kill()
 
 
 def decoded(data):
@@ -82,13 +133,22 @@ def shown(text):
     return encoded(text).decode("utf-8", "backslashreplace")
 
 
-def read_text(path):
-    """Returns the text of a file, each byte of it."""
+def one_line(text):
+    """Returns a text as one line, in which line feeds and other control characters are written as `\\xNN`, too."""
+    return "".join(letter if letter.isprintable() else "\\x%02x" % ord(letter) for letter in shown(text))
+
+
+def read_text(path, name=None):
+    """Returns the text of a file, each byte of it; a file that is too long for the program is refused in its words. A
+    name may be given that is shown instead of the path."""
     try:
         with open(path, "rb") as file:
-            return decoded(file.read())
+            data = file.read(LONGEST + 1)
     except OSError as error:
-        raise Refusal(f"{path}: {error.strerror}", 5) from error
+        raise Refusal(f"{name or path}: {error.strerror}", 5) from error
+    if len(data) > LONGEST:
+        raise Refusal(f"{name or path}: file too long", 3)
+    return decoded(data)
 
 
 def fault(output):
@@ -113,58 +173,89 @@ def canonical(program, path):
     return answer.output
 
 
-def files_of(path):
-    """Returns a file, or the HeyVL files below a folder that aren't hidden, in the order of their names."""
-    if not os.path.isdir(path):
-        return [path]
-
-    def refuse(error):
-        raise Refusal(f"{error.filename}: {error.strerror}", 5)
-
-    found = []
-    for folder, folders, names in os.walk(path, onerror=refuse):
-        folders[:] = [name for name in folders if name[0] != "."]
-        found += [os.path.join(folder, name) for name in names if name.endswith(".heyvl") and name[0] != "."]
-    if not found:
-        raise Refusal(f"{path}: there is no file *.heyvl", 5)
-    return sorted(found)
-
-
 def files_below(paths):
-    """Returns the HeyVL files at and below paths, each once, and the status of the paths that can't be read, which are reported."""
-    found, status = [], 0
+    """Returns the files at these paths, and the HeyVL files below those that are folders, each once and in the order of
+    their names, but for hidden ones; and status 5 where something can't be read, which is reported, or 0."""
+    found, refused = [], []
+
+    def refuse(path, cause):
+        refused.append(path)
+        print(one_line(f"{path}: {cause}"), file=sys.stderr)
+
     for path in paths:
-        try:
-            found += map(os.path.normpath, files_of(path))
-        except Refusal as refused:
-            print(shown(refused.line), file=sys.stderr)
-            status = refused.status
-    return list(dict.fromkeys(found)), status
+        if not os.path.isdir(path):
+            found.append(path)
+            continue
+        below, before = [], len(refused)
+        for folder, folders, names in os.walk(path, onerror=lambda error: refuse(error.filename, error.strerror)):
+            folders[:] = [name for name in folders if name[0] != "."]
+            below += [os.path.join(folder, name) for name in names if name.endswith(".heyvl") and name[0] != "."]
+        if not below and len(refused) == before:
+            refuse(path, "there is no file *.heyvl")
+        found += sorted(below)
+    return list(dict.fromkeys(map(short, found))), 5 if refused else 0
+
+
+def short(path):
+    """Returns a path without parts such as `./`, where it leads to the same file."""
+    normal = os.path.normpath(path)
+    return normal if path and os.path.realpath(normal) == os.path.realpath(path) else path
 
 
 def run_tool(main):
     """Runs the main function of a tool and ends with its status; an error of the user is one line on standard error."""
+    signal.signal(signal.SIGTERM, interrupt)
     try:
-        sys.stdout.reconfigure(errors="backslashreplace")
-        sys.stderr.reconfigure(errors="backslashreplace")
-        status = main()
-        sys.stdout.flush()
+        status = with_outputs(main)
     except Refusal as refused:
-        print(shown(refused.line), file=sys.stderr)
-        status = refused.status
-    except KeyboardInterrupt:
-        status = 128 + signal.SIGINT
+        status = report(refused.line, refused.status)
+    except KeyboardInterrupt as interrupted:
+        status = 128 + (interrupted.args or [signal.SIGINT])[0]
     except BrokenPipeError:
-        os.dup2(os.open(os.devnull, os.O_WRONLY), sys.stdout.fileno())
         status = 6
     except OSError as error:
-        print(shown(f"{error.filename or 'output'}: {error.strerror}"), file=sys.stderr)
-        status = 6
+        status = report(f"{error.filename or 'output'}: {error.strerror}", 6)
     except Exception as error:
         line = error.__traceback__
         while line.tb_next:
             line = line.tb_next
         place = f"{os.path.basename(line.tb_frame.f_code.co_filename)}:{line.tb_lineno}"
-        print(shown(f"{os.path.basename(sys.argv[0])}: a fault of this tool at {place}: {type(error).__name__}: {error}"), file=sys.stderr)
-        status = 70
+        name = os.path.basename(sys.argv[0])
+        status = report(f"{name}: a fault of this tool at {place}: {type(error).__name__}: {error}", 70)
+    close_outputs()
     sys.exit(status)
+
+
+def interrupt(number, _):
+    raise KeyboardInterrupt(number)
+
+
+def with_outputs(main):
+    """Returns the status of a main function that has a standard output and a place for its errors."""
+    if sys.stderr is None:
+        sys.stderr = open(os.devnull, "w", encoding="utf-8")
+    if sys.stdout is None:
+        raise Refusal("output: there is none", 6)
+    sys.stdout.reconfigure(errors="backslashreplace")
+    sys.stderr.reconfigure(errors="backslashreplace")
+    status = main()
+    sys.stdout.flush()
+    return status
+
+
+def report(line, status):
+    """Writes a line to standard error, and returns the status."""
+    try:
+        print(one_line(line), file=sys.stderr, flush=True)
+    except OSError:
+        pass
+    return status
+
+
+def close_outputs():
+    """Writes what is left to standard output, or drops what can't be written, which Python would report once more."""
+    try:
+        sys.stdout.flush()
+    except (AttributeError, OSError):
+        if sys.stdout:
+            os.dup2(os.open(os.devnull, os.O_WRONLY), sys.stdout.fileno())

@@ -29,7 +29,8 @@ class Comment:
 
 
 class Token:
-    """A token: how many line feeds are right before it, the comments before it, and those after it that end its line."""
+    """A token, with the number of line feeds right before it, the comments before it, and those after it that end its
+    line."""
 
     def __init__(self, text, line_feeds=0, before=(), after=()):
         self.text, self.line_feeds, self.before, self.after = text, line_feeds, list(before), list(after)
@@ -42,8 +43,8 @@ class Token:
 
 
 def tokens_with_comments(text):
-    """Returns the tokens of a text, with one for its end and without semicolons; a comment after a token and before the line's end belongs to
-    that token, another one to the token that follows."""
+    """Returns the tokens of a text, with one for its end and without semicolons; a comment after a token and before the
+    line's end belongs to that token, another one to the token that follows."""
     found, comments, line_feeds, place = [], [], 0, 0
     for token, start, end in heyvl.tokens_of(text):
         for part in PART.finditer(text, place, start):
@@ -63,7 +64,8 @@ def tokens_with_comments(text):
 
 
 def ending_comments(comments, line_feeds):
-    """Returns how many of the comments after a token are in its line and end it, where the next token follows them after so many line feeds."""
+    """Returns how many of the comments after a token are in its line and end it. The next token follows the comments,
+    after `line_feeds` line feeds."""
     count = next((at for at, comment in enumerate(comments) if comment.line_feeds), None)
     if count is None:
         return len(comments) if line_feeds else 0
@@ -84,7 +86,7 @@ def sorted_clauses(tokens):
 
 
 def matched(tokens, canonical):
-    """Returns a token for each one of the canonical text: one of these, or a new one for an else that they leave out."""
+    """Returns a token for each one of the canonical text: one of `tokens`, or a new one for an else that is missing."""
     found, waiting = [], iter(tokens)
     token = next(waiting)
     for text, _, _ in canonical:
@@ -99,7 +101,7 @@ def matched(tokens, canonical):
 
 
 class Layout:
-    """The text that is laid out so far, as lines, and the tokens of the canonical text with the white space before each."""
+    """The lines that are laid out so far, and the tokens of the canonical text with the white space before each."""
 
     def __init__(self, tokens, spaces, keeps_breaks):
         self.tokens, self.spaces, self.lines, self.indent, self.keeps_breaks = tokens, spaces, [""], 0, keeps_breaks
@@ -125,7 +127,8 @@ class Layout:
         return at == 0 or "\n" in self.spaces[at]
 
     def move_comments(self):
-        """Moves comments from before a block's brace into the block, and blocks of comments to the token that follows in their line."""
+        """Moves comments from before a block's brace into the block, and comments `/* .. */` to the next token of their
+        line."""
         for at, token in enumerate(self.tokens[:-1]):
             last, following = self.tokens[at - 1], self.tokens[at + 1]
             if token.text == "{" and not self.begins_line(at) and not token.after:
@@ -159,7 +162,8 @@ class Layout:
         is_missing = "\n\n" in self.spaces[at] and not any(item.line_feeds > 1 for item in items)
         for number, item in enumerate(items):
             is_first, is_token = number == 0, item is token
-            never = is_first and (last == "{" or last == ")" and token.text in ("pre", "post")) or is_token and token.text in ("{", "}", "")
+            begins_block = last == "{" or last == ")" and token.text in ("pre", "post")
+            never = is_first and begins_block or is_token and token.text in ("{", "}", "")
             if is_first or item.line_feeds or items[number - 1].is_line() or token.text in ("}", ""):
                 is_apart = is_missing if is_first and is_missing else item.line_feeds > 1 and not never
                 if not is_token or token.text:
@@ -169,7 +173,7 @@ class Layout:
             self.write(token.text) if is_token else self.write_comment(item)
 
     def lay_out_inside(self, at, token):
-        """Lays out a token that doesn't begin a line, and the comments before it; a comment up to the end of a line breaks the line."""
+        """Lays out a token that doesn't begin a line, and the comments before it; a comment `// ..` breaks the line."""
         indent = self.indent + (0 if token.text == "else" else CONTINUED)
         last = self.tokens[at - 1]
         is_broken = any(comment.is_line() for comment in last.after)
@@ -191,8 +195,8 @@ class Layout:
 
 
 def laid_out(text, canonical, keeps_breaks=False):
-    """Returns the canonical text with the comments and the empty lines of the text whose canonical one it is, and where it keeps breaks, with the
-    breaks of lines inside statements, too."""
+    """Returns the canonical text with the comments and the empty lines of `text`, and, if it keeps breaks, with the
+    breaks of lines inside statements."""
     places = heyvl.tokens_of(canonical)
     spaces = [canonical[last:start] for last, (_, start, _) in zip([0, *(end for _, _, end in places)], places)]
     return Layout(matched(sorted_clauses(tokens_with_comments(text)), places), spaces, keeps_breaks).lay_out()

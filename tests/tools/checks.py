@@ -1,5 +1,6 @@
 """What the tests of the tools share: calls of a tool, comparisons, and the line of counts at the end."""
 import os
+import signal
 import subprocess
 import sys
 
@@ -33,22 +34,41 @@ class Checks:
         """Counts comparisons that can't be made here."""
         self.skipped.append((count, why))
 
+    def environment(self):
+        """Returns the variables of a tool's call."""
+        return {**os.environ, "CAESAR": self.program, "PYTHONDONTWRITEBYTECODE": "1"}
+
     def tool(self, name, *words, folder=None, standard_input=b"", **others):
         """Calls a tool and returns its status, its output and its errors."""
-        environment = {**os.environ, "CAESAR": self.program, "PYTHONDONTWRITEBYTECODE": "1", **others}
-        ended = subprocess.run([os.path.join(TOOLS, name), *words], cwd=folder, input=standard_input, env=environment,
-                               stdout=subprocess.PIPE, stderr=subprocess.PIPE, timeout=self.seconds)
-        return ended.returncode, ended.stdout.decode("utf-8", "backslashreplace"), ended.stderr.decode("utf-8", "backslashreplace")
+        ended = subprocess.run([os.path.join(TOOLS, name), *words], cwd=folder, input=standard_input,
+                               env={**self.environment(), **others}, stdout=subprocess.PIPE, stderr=subprocess.PIPE,
+                               timeout=self.seconds)
+        return ended.returncode, *(text.decode("utf-8", "backslashreplace") for text in (ended.stdout, ended.stderr))
+
+    def broken_outputs(self, name, *words, folder=None):
+        """Calls a tool whose standard output is full, closed, or read by nobody: it has status 6 and no traceback."""
+        call = [os.path.join(TOOLS, name), *words]
+        reader, writer = os.pipe()
+        os.close(reader)
+        outputs = (("full", call, open("/dev/full", "wb"), "output: No space left on device\n"),
+                   ("closed", ["sh", "-c", 'exec "$@" >&-', "sh", *call], None, "output: there is none\n"),
+                   ("read by nobody", call, open(writer, "wb"), ""))
+        for how, command, output, wanted in outputs:
+            ended = subprocess.run(command, cwd=folder, env=self.environment(), stdin=subprocess.DEVNULL, stdout=output,
+                                   stderr=subprocess.PIPE, timeout=self.seconds)
+            self.equal(f"{name}: an output that is {how}", (6, wanted), (ended.returncode, ended.stderr.decode()))
+            if output:
+                output.close()
 
     def run(self, *words, folder=None):
         """Calls the program and returns what it writes."""
-        return subprocess.run([self.program, *words], cwd=folder, stdout=subprocess.PIPE, timeout=self.seconds).stdout.decode()
+        ended = subprocess.run([self.program, *words], cwd=folder, stdout=subprocess.PIPE, timeout=self.seconds)
+        return ended.stdout.decode()
 
     def finish(self):
         """Prints the counts and ends the test."""
-        skipped = ""
-        if self.skipped:
-            skipped = f", {sum(count for count, _ in self.skipped)} skipped: {'; '.join(dict.fromkeys(why for _, why in self.skipped))}"
+        skipped, reasons = sum(count for count, _ in self.skipped), dict.fromkeys(why for _, why in self.skipped)
+        skipped = f", {skipped} skipped: {'; '.join(reasons)}" if reasons else ""
         print(f"{self.passed} passed, {self.failed} failed{skipped}")
         sys.exit(self.failed != 0 or self.passed + len(self.skipped) == 0)
 
@@ -59,6 +79,19 @@ def begin(text):
         print(text.strip(), file=sys.stderr)
         sys.exit(2)
     return Checks(sys.argv[1])
+
+
+def start(words, folder=None):
+    """Starts a tool that signals will end, and returns it; a shell may have set it to ignore the keyboard's."""
+    return subprocess.Popen(words, cwd=folder, stdout=subprocess.PIPE, stderr=subprocess.PIPE,
+                            preexec_fn=lambda: signal.signal(signal.SIGINT, signal.default_int_handler))
+
+
+def program(folder, name, text):
+    """Writes a program that is a shell script, and returns its path."""
+    path = written(folder, name, "#!/bin/sh\n" + text)
+    os.chmod(path, 0o755)
+    return path
 
 
 def written(folder, name, text):
