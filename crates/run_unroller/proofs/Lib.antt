@@ -1,6 +1,7 @@
 mod MergedSums
 mod ListsOfRuns
 mod StepOutcomes
+mod FullLists
 mod RunEntries
 mod StepGrowth
 mod StoppedSteps

@@ -2,6 +2,7 @@ pub mod Scripts
 pub mod MergedLists
 pub mod RunLists
 pub mod Causes
+pub mod FullLists
 pub mod Totals
 pub mod Unrolling
 pub mod ScriptTrees

@@ -1,5 +1,6 @@
 //! Laws of unrolled runs. Each function's contract is the law.
 
+ghost use Rattle.run_unroller.specs.FullLists.{FullListsAreLong, OtherListsAreShort};
 ghost use Rattle.run_unroller.specs.ScriptedGrowth as growth;
 ghost use Rattle.run_unroller.specs.UnrollLaws as law;
 
@@ -28,4 +29,10 @@ pub fn unrolled_sums_are_meant()
 /// The sums of a script's runs do not fall as the steps grow.
 pub fn scripted_sums_grow()
     ensures { growth.ScriptedSumsGrow }
+{}
+
+/// The merged list after a step has more than 65,536 runs where Full stops the step, and at most so many where nothing stops it.
+pub fn full_lists_are_long()
+    ensures long { FullListsAreLong }
+    ensures short { OtherListsAreShort }
 {}

@@ -15,5 +15,8 @@ mod values;
 mod weights;
 
 pub use answers::{Sums, Unrolled};
-pub use laws::{lists_are_runs, scripted_sums_grow, totals_are_sums, unrolled_sums_are_meant};
+pub use laws::{
+    full_lists_are_long, lists_are_runs, scripted_sums_grow, totals_are_sums,
+    unrolled_sums_are_meant,
+};
 pub use unrolling::unroll;
