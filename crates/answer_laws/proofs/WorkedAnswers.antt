@@ -26,7 +26,7 @@ use Rattle.run_machine.specs.Bound.{IsState}
 use Rattle.loop_encodings.specs.BoundGoals.{BoundGoal, BoundGoalsHold}
 use Rattle.loop_encodings.specs.Encoding.{encoding}
 use Rattle.ranking_rule.specs.Rankings.{after_turn}
-use Rattle.verify_core.specs.Headline.{IsFalsifiedIn, IsUnrankedIn}
+use Rattle.verify_core.specs.Headline.{IsFalseAsShown, IsFalsifiedIn, IsUnrankedIn}
 
 abbrev nowhere : Span
 nowhere = record { from = 0; to = 0 }
@@ -54,6 +54,9 @@ two_is_above_one h = let k = h.holds in absurd (cc)
 
 big_is_falsified : IsFalsifiedIn (big ∷ []) 0 Post []
 big_is_falsified = record { goal = BoundGoal.post; id_of = refl; state = refl; fails = record { choices = Choices.stop; state = refl; fails = λ h. two_is_above_one h } }
+
+big_is_false_as_shown : IsFalseAsShown (big ∷ []) 0 Post []
+big_is_false_as_shown = record { goal = BoundGoal.post; id_of = refl; fails = record { typed = refl; fails = λ h. two_is_above_one h } }
 
 -- ---- A callee that answers 2: 2 is above its pre
 

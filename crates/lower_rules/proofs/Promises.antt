@@ -96,5 +96,5 @@ module _ (ps : List TypedProcedure) (p q : ℕ) (rules : Each (MeetsRules ps) ps
     positive = subst (λ x. zeroʳ <ʳ x) step positive;
     bounds = λ s st. subst (λ x. BoundsWithRemainder ps p pair.loop.front pair.loop.body pair.loop.behind pair.loop.head x (value (procedure_at ps q).pre (environment s) Choices.stop) s) step (bounds h.tells s st);
   }
-  is_promised e step (decision.Falsified s) h = record { pair = pair; fails = h.tells }
+  is_promised e step (decision.Falsified s) h = record { pair = pair; fails = h.tells.0; as_shown = h.tells.1 }
   is_promised e step (decision.Unknown cause) h = tt

@@ -69,7 +69,7 @@ module _ (typed : Typed) (p q : ℕ) (parts : RankedParts) (all : MeetsAllRules 
 
   tells : GeneratedFormMeansActs → GeneratedFormIsOver → PrenexedGoalsSpeakOfChoices → PrenexedGoalsFailByChoices → (d : Decision) → Tells (start_goal one front rank other.pre) d → TellsOfStart one front rank other.pre d
   tells means over speak failing (decision.Proved tree) h = start_holds ps one other front rank start bound_rules means over speak h
-  tells means over speak failing (decision.Falsified s) h = start_fails ps one other front rank start bound_rules means over failing s.items h
+  tells means over speak failing (decision.Falsified s) h = (start_fails ps one other front rank start bound_rules means over failing s.items h, h)
   tells means over speak failing (decision.Unknown cause) h = tt
 
   pub is_started : GeneratedFormMeansActs → GeneratedFormIsOver → PrenexedGoalsSpeakOfChoices → PrenexedGoalsFailByChoices → (r : Result Decision AllocError) → IfOk r (λ d. IsDecidedWithin (start_goal one front rank other.pre) (found ∷ []) d) → IfOk r (λ d. Tells (start_goal one front rank other.pre) d) → IfOk r (λ d. IsStarted one other front rank d)

@@ -209,7 +209,9 @@ module _ (typed : Typed) (p q : ℕ) (x : Pair) (at : IsPairAt typed p q x) wher
     shown over law (reply.Fails step s) t =
         let d = decided (reply.Fails step s) t in
         let l = d.pair.loop in
+        let f = failing d.one d.base d.turn step s d.is_told (λ k. step_goal (procedure_at (procedures_of typed) p) l.head l.body l.behind (procedure_at (procedures_of typed) q) k) d.one_tells d.base_tells d.turn_tells in
         record {
           pair = d.pair;
-          fails = goal_fails (procedures_of typed) (procedure_at (procedures_of typed) p) first_rules l (procedure_at (procedures_of typed) q) second_rules d.pair.pair over law step s.items (failing d.one d.base d.turn step s d.is_told (λ k. step_goal (procedure_at (procedures_of typed) p) l.head l.body l.behind (procedure_at (procedures_of typed) q) k) d.one_tells d.base_tells d.turn_tells);
+          fails = goal_fails (procedures_of typed) (procedure_at (procedures_of typed) p) first_rules l (procedure_at (procedures_of typed) q) second_rules d.pair.pair over law step s.items f;
+          as_shown = f;
         }

@@ -6,6 +6,7 @@ use Rattle.goal_answers.specs.declared.decisions.Decision.{Decision}
 use Rattle.goal_answers.specs.declared.decisions.Decision.TheVariants as decision
 use Rattle.heylo_formula.specs.declared.values.Val.{Val}
 use Rattle.heyvl_acts.specs.Acts.{TypedProcedure, procedure_at, type_list, variables}
+use Rattle.region_split.specs.Meanings as meaning
 use Rattle.run_machine.specs.Bound.{IsState}
 use Rattle.vp_generator.specs.PrenexedGoals.{FailsByChoices}
 use Rattle.lower_rules.specs.Omega.{BoundsFrom}
@@ -67,10 +68,12 @@ pub record OmegaHolds (ps : List TypedProcedure) (p q : ℕ) : Type 0 where
   pub bounds : (s : List Val) → IsState (procedure_at ps p) s → BoundsFrom ps p pair.loop.front pair.loop.body pair.loop.behind pair.loop.head (formula_of (procedure_at ps p) pair.loop.head (procedure_at ps q)) s
 
 -- The goal of the step fails by the meaning of formulas: the first values of what is shown are a state of the first procedure and a
--- number of turns, in which the smaller side is above the greater one for some choices.
+-- number of turns, in which the smaller side is above the greater one for some choices; and it is false with the values shown, those behind the
+-- variables in place of its binders.
 pub record StepFails (p q : TypedProcedure) (step : Step) (s : List Val) : Type 0 where
   pub pair : OmegaPair p q
   pub fails : FailsByChoices false (type_list (goal_variables p pair.loop.head q)) (smaller (length (variables p)) (formula_of p pair.loop.head q) step) (greater p pair.loop.head pair.loop.body pair.loop.behind (formula_of p pair.loop.head q) step) (take (length (type_list (goal_variables p pair.loop.head q))) s)
+  pub as_shown : meaning.Fails (step_goal p pair.loop.head pair.loop.body pair.loop.behind q step) s
 
 -- Where the answer is that the pair fails, it does so in the state that is shown.
 abbrev pub ShownStateFails : List TypedProcedure → ℕ → ℕ → Omega → Type 0

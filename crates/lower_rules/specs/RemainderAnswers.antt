@@ -13,6 +13,7 @@ use Rattle.heyvl_acts.specs.Acts.{TypedProcedure, procedure_at, variables}
 use Rattle.loop_encodings.specs.BoundGoals.{BoundGoal, GoalHolds}
 use Rattle.ranking_rule.specs.RankingGoals.{generated}
 use Rattle.ranking_rule.specs.Rankings.{RankedLoop}
+use Rattle.region_split.specs.Meanings as meaning
 use Rattle.run_machine.specs.Bound.{Bound, IsState, RankedBy}
 use Rattle.verdict_report.specs.declared.answers.Answer.{Answer}
 use Rattle.verdict_report.specs.declared.answers.RankVerdict.TheVariants.{Ranked}
@@ -84,10 +85,11 @@ pub record RemainderHolds (ps : List TypedProcedure) (p q : ℕ) (e : Rational) 
   pub positive : zeroʳ <ʳ e
   pub bounds : (s : List Val) → IsState (procedure_at ps p) s → BoundsWithRemainder ps p pair.loop.front pair.loop.body pair.loop.behind pair.loop.head e (value (procedure_at ps q).pre (environment s) Choices.stop) s
 
--- The goal fails in the state that is shown: the first values are a state of the first procedure.
+-- The goal fails in the state that is shown: the first values are a state of the first procedure. It is false with all values shown.
 pub record RemainderFails (ps : List TypedProcedure) (p q : ℕ) (s : List Val) : Type 0 where
   pub pair : RemainderPair (procedure_at ps p) (procedure_at ps q)
   pub fails : StartFails (procedure_at ps p) pair.loop.front pair.rank (procedure_at ps q).pre (take (length (variables (procedure_at ps p))) s)
+  pub as_shown : meaning.Fails (start_goal (procedure_at ps p) pair.loop.front pair.rank (procedure_at ps q).pre) s
 
 -- What an answer promises: where it holds the bound, where it fails that the goal fails in the state that is shown.
 abbrev pub IsPromised : List TypedProcedure → ℕ → ℕ → Remainder → Type 0

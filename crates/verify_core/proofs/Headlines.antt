@@ -29,7 +29,7 @@ use Rattle.verdict_report.specs.declared.answers.Answer.{Answer}
 use Rattle.verdict_report.specs.declared.answers.Verdict.{Verdict}
 use Rattle.verdict_report.specs.declared.answers.Verdict.TheVariants.{Verified, Valid, NotVerified, Unknown, Unchecked, Conditional, NoBody}
 use Rattle.verify_core.specs.GoalLaws.{MadeGoalsSayBounds}
-use Rattle.verify_core.specs.Headline.{IsBrokenFrom, IsFalsifiedIn, IsHeadline, says_proved}
+use Rattle.verify_core.specs.Headline.{IsBrokenFrom, IsFalseAsShown, IsFalsifiedIn, IsHeadline, says_proved}
 use Rattle.verify_core.specs.NumberedLists.{row_at}
 use Rattle.verify_core.specs.Outcomes.{IsTold, all_proved, is_proved}
 use Rattle.verify_core.specs.Questions.{goal, question}
@@ -43,7 +43,7 @@ use Rattle.verify_core.proofs.GoalOutcomes.{IsProvedOne, each_proved}
 use Rattle.verify_core.proofs.MadeGoals.{Means}
 use Rattle.verify_core.proofs.OutcomesMean.{AreOutcomes, IsBoundOutcome, told_means}
 use Rattle.verify_core.proofs.OwnEncoding.{itself, none_fresh}
-use Rattle.verify_core.proofs.RankedLoops.{ranked_loop, unranked_loop}
+use Rattle.verify_core.proofs.RankedLoops.{ranked_loop, unranked_as_shown, unranked_loop}
 use Rattle.verify_core.proofs.SideBySide.{IsPlaced, placed}
 use Rattle.vp_generator.specs.Laws.{GeneratedFormIsFormula, GeneratedFormMeansActs}
 use Rattle.vp_generator.specs.Over.{GeneratedFormIsOver}
@@ -94,10 +94,15 @@ module _ (same : MadeGoalsSayBounds) (shown_bounds : ShownBoundsHold) (broken_go
   shown q h = record { program = h.program; goals = held q (program_there ps q h.program) h.proved }
 
   -- What is shown of the first goal that is falsified.
+  false_as_shown : (p : ℕ) (id : GoalId) (s : Vec Val Global) → p < length ps → IsTold (row_at table p) id (outcome.Falsified s) → IsFalseAsShown ps p id s.items
+  false_as_shown p id s l t =
+      let k = told_means ps p (bound_goals (procedure_at ps p)) (row_at table p) id (outcome.Falsified s) (are.bounds p l) t in
+      record { goal = k.asked; id_of = k.named; fails = k.means }
+
   shown_falsified : (p : ℕ) (id : GoalId) (s : Vec Val Global) → p < length ps → IsTold (row_at table p) id (outcome.Falsified s) → IsFalsifiedIn ps p id s.items
   shown_falsified p id s l t =
-      let k = told_means ps p (bound_goals (procedure_at ps p)) (row_at table p) id (outcome.Falsified s) (are.bounds p l) t in
-      subst (λ i. IsFalsifiedIn ps p i s.items) k.named (falsified_in means formula generated_over over failing ps rules p l k.asked s.items k.means)
+      let k = false_as_shown p id s l t in
+      subst (λ i. IsFalsifiedIn ps p i s.items) k.id_of (falsified_in means formula generated_over over failing ps rules p l k.goal s.items k.fails)
 
   broken : (p : ℕ) (s : Vec Val Global) → p < length ps → IsTold (row_at table p) Main (outcome.Falsified s) → IsProgram (procedure_at ps p) → Each IsStraight (in_order (acts_in (procedure_at ps p).body)) → IsBrokenFrom ps p (take (length (variables (procedure_at ps p))) s.items)
   broken p s l e program straight =
@@ -133,5 +138,9 @@ module _ (same : MadeGoalsSayBounds) (shown_bounds : ShownBoundsHold) (broken_go
     shown = λ p id s on. let k = said ps table ranks answers p (NotVerified id s) h on in shown_falsified p id s k.there k.verdict;
     unranked = λ p n s on.
         let r = answered ps table ranks answers on.before on.behind on.answer p h on.all on.place in
-        unranked_loop unrank ps p n (ranked_loops (procedure_at ps p)) (row_at ranks p) on.answer.loops.items on.line s rules r.there (are.rankings p r.there) r.is.loops on.listed on.number on.verdict;
+        unranked_loop unrank ps p n s.items rules r.there (unranked_as_shown ps p n (ranked_loops (procedure_at ps p)) (row_at ranks p) on.answer.loops.items on.line s (are.rankings p r.there) r.is.loops on.listed on.number on.verdict);
+    as_shown = λ p id s on. let k = said ps table ranks answers p (NotVerified id s) h on in false_as_shown p id s k.there k.verdict;
+    unranked_as_shown = λ p n s on.
+        let r = answered ps table ranks answers on.before on.behind on.answer p h on.all on.place in
+        unranked_as_shown ps p n (ranked_loops (procedure_at ps p)) (row_at ranks p) on.answer.loops.items on.line s (are.rankings p r.there) r.is.loops on.listed on.number on.verdict;
   }

@@ -15,7 +15,7 @@ use Rattle.ranking_rule.specs.Rankings.{RankedLoop}
 use Rattle.region_split.specs.Meanings.{Fails}
 use Rattle.verdict_report.specs.declared.answers.LoopAnswer.{LoopAnswer}
 use Rattle.verdict_report.specs.declared.answers.RankVerdict.TheVariants.{NotRanked, Ranked}
-use Rattle.verify_core.specs.Headline.{IsRankedLoop, IsUnrankedIn}
+use Rattle.verify_core.specs.Headline.{IsRankedLoop, IsUnrankedAsShown, IsUnrankedIn}
 use Rattle.verify_core.specs.Outcomes.{loop_answer, rank_of}
 use Rattle.verify_core.specs.declared.outcomes.GoalOutcome.{GoalOutcome}
 use Rattle.verify_core.specs.declared.outcomes.Outcome.{Outcome}
@@ -70,9 +70,12 @@ falsified_by (Unknown c) s e = cc
 falsified_by (Missed m) s e = cc
 
 -- An answer that a loop is not ranked.
-pub unranked_loop : RankingGoalsFail → (ps : List TypedProcedure) (p n : ℕ) (ns : List ℕ) (os : List GoalOutcome) (ls : List LoopAnswer) (a : LoopAnswer) (s : Vec Val Global) → Each (MeetsRules ps) ps → p < length ps → AllZip (IsRankingOutcome ps p) ns os → ls ≡ map loop_answer os → Contains ls a → a.number ≡ n → a.rank ≡ NotRanked s → IsUnrankedIn ps p n s.items
-unranked_loop fail ps p n ns os ls a s rules there h r c e v =
+pub unranked_as_shown : (ps : List TypedProcedure) (p n : ℕ) (ns : List ℕ) (os : List GoalOutcome) (ls : List LoopAnswer) (a : LoopAnswer) (s : Vec Val Global) → AllZip (IsRankingOutcome ps p) ns os → ls ≡ map loop_answer os → Contains ls a → a.number ≡ n → a.rank ≡ NotRanked s → IsUnrankedAsShown ps p n s.items
+unranked_as_shown ps p n ns os ls a s h r c e v =
     let x = outcome_at ps p ns os ls a h r c in
     let l = x.is_of.loop in
     let f : Fails (goal (procedure_at ps p) l.head l.body l.rank) s.items = subst (Means (goal (procedure_at ps p) l.head l.body l.rank)) (falsified_by x.goal.outcome s (sym x.rank ∙ v)) x.is_of.means in
-    subst (λ m. IsUnrankedIn ps p m s.items) e (record { loop = l; fails = fail ps (procedure_at ps p) a.number l (each_at (MeetsRules ps) ps p rules there) s.items f.typed f.fails })
+    subst (λ m. IsUnrankedAsShown ps p m s.items) e (record { loop = l; fails = f })
+
+pub unranked_loop : RankingGoalsFail → (ps : List TypedProcedure) (p n : ℕ) (s : List Val) → Each (MeetsRules ps) ps → p < length ps → IsUnrankedAsShown ps p n s → IsUnrankedIn ps p n s
+unranked_loop fail ps p n s rules there u = let l = u.loop in record { loop = l; fails = fail ps (procedure_at ps p) n l (each_at (MeetsRules ps) ps p rules there) s u.fails.typed u.fails.fails }

@@ -46,6 +46,7 @@ module _ (laws : Laws) (ps : List TypedProcedure) (rules : Each (MeetsRules ps) 
         falsified = λ s e.
             let k = falsified_in laws.means laws.formula laws.over laws.encoded laws.failing ps rules p there asked s.items (subst (Means g) e h.means) in
             subst (λ (b : BoundGoal). GoalFails ps q b (take (length (goal_variables ps q b)) s.items)) (same_goal k.goal asked k.id_of) k.fails;
+        as_shown = λ s e. subst (Means g) e h.means;
       }
 
   row_meant : (table ranks : List (List GoalOutcome)) → AreOutcomes ps table ranks → (p : ℕ) → p < length ps → AllZip (IsMeantAlone ps p) (bound_goals (procedure_at ps p)) (row_at table p)

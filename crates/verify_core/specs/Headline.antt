@@ -12,13 +12,16 @@ use Rattle.heyvl_acts.specs.Rules.{Each}
 use Rattle.loop_encodings.specs.BoundGoals.{BoundGoal, BoundGoalsHold, GoalFails, goal_id, goal_variables}
 use Rattle.bounded_runs.specs.Law.{IsBroken}
 use Rattle.heyvl_acts.specs.Straight.{IsStraight}
+use Rattle.ranking_rule.specs.RankingGoals as ranking
 use Rattle.ranking_rule.specs.Rankings.{IsNoRanking, IsRanking, RankedLoop}
+use Rattle.region_split.specs.Meanings.{Fails}
 use Rattle.run_machine.specs.Bound.{Bound, IsState, RankedBy}
 use Rattle.verdict_report.specs.declared.answers.Answer.{Answer}
 use Rattle.verdict_report.specs.declared.answers.RankVerdict.TheVariants.{NotRanked, Ranked}
 use Rattle.verdict_report.specs.declared.answers.Verdict.{Verdict}
 use Rattle.verdict_report.specs.declared.answers.Verdict.TheVariants.{Verified, Valid, NotVerified, Unknown, Unchecked, Conditional, NoBody}
 use Rattle.verdict_report.specs.VerdictsOn.{IsVerdictOn, IsVerdictOnLoop}
+use Rattle.verify_core.specs.Questions as questions
 
 -- Each procedure that is verified has its bound over all runs: of a coproc, from every initial state, under every scheduler and
 -- for every n, reward and post over runs of at most n steps, weighted exactly, are at most its pre; of a weak proc, post so
@@ -52,6 +55,17 @@ pub record IsFalsifiedIn (ps : List TypedProcedure) (p : ℕ) (id : GoalId) (s :
 abbrev pub ShownStatesFalsify : List TypedProcedure → List Answer → Type 0
 ShownStatesFalsify ps answers = (p : ℕ) (id : GoalId) (s : Vec Val Global) → IsVerdictOn answers p (NotVerified id s) → IsFalsifiedIn ps p id s.items
 
+-- The goal of this name is false with the values that are shown: those of its variables, and behind them one for each place of a binder, in
+-- the order of the text, which stands there in place of the binder.
+pub record IsFalseAsShown (ps : List TypedProcedure) (p : ℕ) (id : GoalId) (s : List Val) : Type 0 where
+  pub goal : BoundGoal
+  pub id_of : goal_id goal ≡ id
+  pub fails : Fails (questions.goal (questions.question ps (procedure_at ps p) goal)) s
+
+-- Each goal that is said to be falsified is false with the values that are shown.
+abbrev pub ShownValuesFalsify : List TypedProcedure → List Answer → Type 0
+ShownValuesFalsify ps answers = (p : ℕ) (id : GoalId) (s : Vec Val Global) → IsVerdictOn answers p (NotVerified id s) → IsFalseAsShown ps p id s.items
+
 -- Each program without loops and calls whose bound is falsified has runs that break it: the first values of the state that is
 -- shown are an initial state, and from there some scheduler breaks the bound, for each number of steps from the length of the
 -- body on.
@@ -84,6 +98,15 @@ pub record IsUnrankedIn (ps : List TypedProcedure) (p n : ℕ) (s : List Val) : 
 abbrev pub ShownStatesUnrank : List TypedProcedure → List Answer → Type 0
 ShownStatesUnrank ps answers = (p n : ℕ) (s : Vec Val Global) → IsVerdictOnLoop answers p n (NotRanked s) → IsUnrankedIn ps p n s.items
 
+-- The loop's goal is false with the values that are shown, of its variables and of its binders.
+pub record IsUnrankedAsShown (ps : List TypedProcedure) (p n : ℕ) (s : List Val) : Type 0 where
+  pub loop : RankedLoop (procedure_at ps p) n
+  pub fails : Fails (ranking.goal (procedure_at ps p) loop.head loop.body loop.rank) s
+
+-- Each ranking that is said to be falsified is false with the values that are shown.
+abbrev pub ShownValuesUnrank : List TypedProcedure → List Answer → Type 0
+ShownValuesUnrank ps answers = (p n : ℕ) (s : Vec Val Global) → IsVerdictOnLoop answers p n (NotRanked s) → IsUnrankedAsShown ps p n s.items
+
 -- The headline.
 pub record IsHeadline (ps : List TypedProcedure) (answers : List Answer) : Type 0 where
   pub verified : VerifiedBoundsHold ps answers
@@ -92,3 +115,5 @@ pub record IsHeadline (ps : List TypedProcedure) (answers : List Answer) : Type 
   pub proved : ProvedGoalsHold ps answers
   pub shown : ShownStatesFalsify ps answers
   pub unranked : ShownStatesUnrank ps answers
+  pub as_shown : ShownValuesFalsify ps answers
+  pub unranked_as_shown : ShownValuesUnrank ps answers

@@ -9,6 +9,7 @@ use Rattle.heylo_formula.specs.declared.values.Val.{Val}
 use Rattle.heyvl_acts.specs.Acts.{TypedProcedure, procedure_at}
 use Rattle.heyvl_acts.specs.Rules.{Each, MeetsRules}
 use Rattle.loop_encodings.specs.BoundGoals.{BoundGoal, GoalFails, GoalHolds, bound_goals, goal_id, goal_variables}
+use Rattle.region_split.specs.Meanings.{Fails}
 use Rattle.verdict_report.specs.declared.answers.Answer.{Answer}
 use Rattle.verify_core.specs.AnsweredProcedures.{AreAnswered}
 use Rattle.verify_core.specs.CertifiedGoals as certified
@@ -24,11 +25,13 @@ use Rattle.verify_core.specs.declared.outcomes.Outcome.TheVariants.{Falsified}
 abbrev pub BoundGoalsAreGoals : Type 0
 BoundGoalsAreGoals = (ps : List TypedProcedure) (p : ℕ) (asked : BoundGoal) → Each (MeetsRules ps) ps → p < length ps → IsGoal (goal (question ps (procedure_at ps p) asked))
 
--- The outcome is that of this goal. A proved goal holds, in every state and for all choices; a falsified one fails in the state shown.
+-- The outcome is that of this goal. A proved goal holds, in every state and for all choices; a falsified one fails in the state shown,
+-- and is false with the values shown.
 pub record IsMeantAlone (ps : List TypedProcedure) (p : ℕ) (asked : BoundGoal) (o : GoalOutcome) : Type 0 where
   pub id_of : o.goal.id ≡ goal_id asked
   pub proved : is_proved o.outcome ≡ true → GoalHolds ps (procedure_at ps p) asked
   pub falsified : (s : Vec Val Global) → o.outcome ≡ Falsified s → GoalFails ps (procedure_at ps p) asked (take (length (goal_variables ps (procedure_at ps p) asked)) s.items)
+  pub as_shown : (s : Vec Val Global) → o.outcome ≡ Falsified s → Fails (goal (question ps (procedure_at ps p) asked)) s.items
 
 -- So it is for each goal that is decided.
 abbrev pub GoalsAreMeantAlone : Type 0

@@ -6,6 +6,7 @@ use Rattle.heyvl_num.specs.Rational.{Rational}
 use Rattle.heylo_formula.specs.Formula.{Form}
 use Rattle.heyvl_acts.specs.Acts.{Acts, TypedProcedure, variables}
 use Rattle.ranking_rule.specs.RankingGoals.{generated}
+use Rattle.region_split.specs.Meanings as meaning
 use Rattle.lower_goals.specs.StartGoals.{StartFails, StartHolds, start_goal}
 use Rattle.lower_rules.specs.LimitedDecisions.{IsDecidedWithin}
 use Rattle.lower_goals.specs.declared.remainder_answers.Remainder.{Remainder}
@@ -14,7 +15,7 @@ use Rattle.lower_goals.specs.declared.remainder_answers.Remainder.TheVariants.{H
 -- What a decision tells of the states of the first procedure.
 abbrev pub TellsOfStart : TypedProcedure → Acts → Rational × Form → Form → Decision → Type 0
 TellsOfStart p front r bound (decision.Proved tree) = StartHolds p front r bound
-TellsOfStart p front r bound (decision.Falsified s) = StartFails p front r bound (take (length (variables p)) s.items)
+TellsOfStart p front r bound (decision.Falsified s) = StartFails p front r bound (take (length (variables p)) s.items) × meaning.Fails (start_goal p front r bound) s.items
 TellsOfStart p front r bound (decision.Unknown cause) = Unit {0}
 
 -- The decision of the goal, with what it tells.
