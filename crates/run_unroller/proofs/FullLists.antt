@@ -137,14 +137,14 @@ long_from _ _ es (Joins.stopped c more xs n) f = absurd (n (same_some c Full f))
   where
     same_some : (a b : Cause) → Some a ≡ Some b → a ≡ b
     same_some a b e = cc
-long_from _ _ es (Joins.next w x bs xs h) f = go (join_cause es w x) refl f
+long_from _ _ es (Joins.next w x bs xs h) f = go (join_cause es w x) refl f (λ g. long_from bs xs (put same_stored (w *ʳ x.0, x.1) es) h g)
   where
     later : RunList
     later = put same_stored (w *ʳ x.0, x.1) es
 
-    go : (o : Option Cause) → join_cause es w x ≡ o → option_or o (first_cause later bs) ≡ Some Full → 65536 < length (merged_onto same_stored es ((w *ʳ x.0, x.1) ∷ xs))
-    go None e f = subst (λ l. 65536 < length l) (sym (onto_next same_stored es (w *ʳ x.0, x.1) xs)) (long_from bs xs later h f)
-    go (Some c) e f =
+    go : (o : Option Cause) → join_cause es w x ≡ o → option_or o (first_cause later bs) ≡ Some Full → (first_cause later bs ≡ Some Full → 65536 < length (merged_onto same_stored later xs)) → 65536 < length (merged_onto same_stored es ((w *ʳ x.0, x.1) ∷ xs))
+    go None e f more = subst (λ l. 65536 < length l) (sym (onto_next same_stored es (w *ʳ x.0, x.1) xs)) (more f)
+    go (Some c) e f more =
         let m = full_product es x.1 (exact_product w x.0) (e ∙ f) in
         let k = put_new same_stored (w *ʳ x.0, x.1) es m.none in
         let l = onto_longer same_stored later xs in
@@ -154,14 +154,14 @@ long_from _ _ es (Joins.next w x bs xs h) f = go (join_cause es w x) refl f
 short_from : (bs : List Brought) (xs es : RunList) → Joins bs xs → first_cause es bs ≡ None → length es ≤ 65536 → length (merged_onto same_stored es xs) ≤ 65536
 short_from _ _ es Joins.done f l = subst (λ k. length k ≤ 65536) (sym (onto_nothing same_stored es)) l
 short_from _ _ es (Joins.stopped c more xs n) f l = absurd (cc)
-short_from _ _ es (Joins.next w x bs xs h) f l = go (join_cause es w x) refl f
+short_from _ _ es (Joins.next w x bs xs h) f l = go (join_cause es w x) refl f (λ g k. short_from bs xs (put same_stored (w *ʳ x.0, x.1) es) h g k)
   where
     later : RunList
     later = put same_stored (w *ʳ x.0, x.1) es
 
-    go : (o : Option Cause) → join_cause es w x ≡ o → option_or o (first_cause later bs) ≡ None → length (merged_onto same_stored es ((w *ʳ x.0, x.1) ∷ xs)) ≤ 65536
-    go None e f = subst (λ k. length k ≤ 65536) (sym (onto_next same_stored es (w *ʳ x.0, x.1) xs)) (short_from bs xs later h f (short_product es x.1 (w *ʳ x.0) (exact_product w x.0) e l))
-    go (Some c) e f = absurd (cc)
+    go : (o : Option Cause) → join_cause es w x ≡ o → option_or o (first_cause later bs) ≡ None → (first_cause later bs ≡ None → length later ≤ 65536 → length (merged_onto same_stored later xs) ≤ 65536) → length (merged_onto same_stored es ((w *ʳ x.0, x.1) ∷ xs)) ≤ 65536
+    go None e f more = subst (λ k. length k ≤ 65536) (sym (onto_next same_stored es (w *ʳ x.0, x.1) xs)) (more f (short_product es x.1 (w *ʳ x.0) (exact_product w x.0) e l))
+    go (Some c) e f more = absurd (cc)
 
 pub full_lists_long : FullListsAreLong
 full_lists_long ps script rs f = long_from (all_brought ps script rs) (joined (follow ps script) rs) [] (all_join ps script rs) f
