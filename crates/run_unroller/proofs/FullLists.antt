@@ -1,8 +1,8 @@
 -- A step's list is too long exactly where Full is what stops it.
-use Rattle.std.proofs.Common.{◌≡◌, ◌<◌, ◌≤◌, ◌∙◌, ℕ, refl, sym, ap, subst, arith, Bool, true, false, List, [], ◌∷◌, ◌++◌, length, map}
+use Rattle.std.proofs.Common.{◌≡◌, ◌<◌, ◌≤◌, ◌∙◌, refl, sym, ap, subst, arith, Bool, true, false, List, [], ◌∷◌, ◌++◌, length, map}
 use Rattle.std.specs.Option.{option_or}
 use Rattle.std.specs.Prelude.{Option, Some, None, is_some, nat_lt, if◌then◌else◌}
-use Prim.Native.Nat.{suc, zero}
+use Prim.Native.Nat.{suc}
 use Rattle.heyvl_num.specs.Exact.{exact_product, exact_sum}
 use Rattle.heyvl_num.specs.Rational.{Rational, oneʳ, ◌*ʳ◌, ◌+ʳ◌}
 use Rattle.heyvl_num.specs.WeightedSums.{joined, scaled}
@@ -11,7 +11,7 @@ use Rattle.run_machine.specs.declared.configurations.Decide.{Decide}
 use Rattle.run_machine.specs.Names.{Numbered, Stored}
 use Rattle.run_machine.specs.Replies.{StoredOutcomes, any_large, replied}
 use Rattle.run_machine.specs.SameConfigurations.{same_stored}
-use Rattle.run_machine.specs.StoredStep.{stored_reply, stored_step}
+use Rattle.run_machine.specs.StoredStep.{stored_step}
 use Rattle.run_unroller.specs.declared.causes.Cause.{Cause}
 use Rattle.run_unroller.specs.declared.causes.Cause.TheVariants.{Bits, Deep, Full}
 use Rattle.run_unroller.specs.Causes.{Brought, all_brought, brought, brought_by, first_cause, join_cause, product_cause, put_cause}

@@ -54,10 +54,10 @@ has_moved : (certs : List GoalCert) (p q : ℕ) (i j : GoalId) (t : Tree) → p 
 has_moved certs p q i j t e f h = subst (λ x. HasTree certs x j t) e (subst (λ x. HasTree certs p x t) f h)
 
 -- A goal that is accepted, and what is said of the same one.
-record AreOneGoal (g h : NamedGoal) : Type 0 where
-  proc : g.proc ≡ h.proc
-  id_of : g.id ≡ h.id
-  alike : MadeAlike g.made h.made
+pub record AreOneGoal (g h : NamedGoal) : Type 0 where
+  pub proc : g.proc ≡ h.proc
+  pub id_of : g.id ≡ h.id
+  pub alike : MadeAlike g.made h.made
 
 no_miss : NeverBoth → (certs : List GoalCert) (g : NamedGoal) (c : CheckedGoal) → IsGrowingAfter None (certificates_of certs) → AreOneGoal g c.goal → IsMissOf certs c.goal c.found → IsGoalAccepted certs g → (m : Option Miss) → c.found ≡ m → c.found ≡ None
 no_miss law certs g c o x y a None e = e
@@ -68,12 +68,12 @@ no_miss law certs g c o x y a (Some (Place way)) e =
     let same = one_tree certs c.goal.proc c.goal.id r.tree a.tree o r.has has in
     absurd (never_refused law g.made c.goal.made a.tree way.items x.alike a.certifies (subst (λ t. IsRefusedAt c.goal.made t way.items) same r.refused))
 
-bound_same : (ps : List TypedProcedure) (k : ℕ) (asked : BoundGoal) (g h : NamedGoal) → IsGoalOf ps k asked g → IsGoalOf ps k asked h → AreOneGoal g h
+pub bound_same : (ps : List TypedProcedure) (k : ℕ) (asked : BoundGoal) (g h : NamedGoal) → IsGoalOf ps k asked g → IsGoalOf ps k asked h → AreOneGoal g h
 bound_same ps k asked g h x y =
     let q = question ps (procedure_at ps k) asked in
     record { proc = x.proc ∙ sym y.proc; id_of = x.id_of ∙ sym y.id_of; alike = made_alike q.found (goal q) g.made h.made x.made y.made }
 
-ranking_same : (ps : List TypedProcedure) (k n : ℕ) (g h : NamedGoal) → IsRankingGoal ps k n g → IsRankingGoal ps k n h → AreOneGoal g h
+pub ranking_same : (ps : List TypedProcedure) (k n : ℕ) (g h : NamedGoal) → IsRankingGoal ps k n g → IsRankingGoal ps k n h → AreOneGoal g h
 ranking_same ps k n g h x y =
     let p = procedure_at ps k in
     let l = x.ranked in

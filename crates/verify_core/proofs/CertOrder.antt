@@ -29,7 +29,7 @@ never a b c h = grind (arith, nat_tests)
 pub precedes_onward : (m n o : GoalName) → precedes m n ≡ true → precedes n o ≡ true → precedes m o ≡ true
 precedes_onward m n o h k = onward m.proc (kind_rank m.id) (loop_of m.id) n.proc (kind_rank n.id) (loop_of n.id) o.proc (kind_rank o.id) (loop_of o.id) h k
 
-not_before_itself : (m : GoalName) → precedes m m ≡ true → ⊥
+pub not_before_itself : (m : GoalName) → precedes m m ≡ true → ⊥
 not_before_itself m h = never m.proc (kind_rank m.id) (loop_of m.id) h
 
 after_the_first : (n : GoalName) (cs : List GoalCert) (k : ℕ) (d : GoalCert) → IsGrowingAfter (Some n) (certificates_of cs) → k < length cs → precedes n (name_of (slice_index_or cs k d)) ≡ true

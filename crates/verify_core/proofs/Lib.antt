@@ -30,6 +30,7 @@ mod SingleGoals
 mod CertOrder
 mod ServedGoals
 mod AcceptedProofs
+mod UnprovedGoals
 mod HeadlineExamples
 mod RankingExamples
 mod CheckedExamples

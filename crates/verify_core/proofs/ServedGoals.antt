@@ -26,7 +26,7 @@ use Rattle.goal_answers.specs.declared.named_goals.NamedGoal.{NamedGoal}
 use Rattle.verify_core.specs.CertifiedGoals.{Certifies}
 use Rattle.verify_core.specs.CheckedProofs.{IsServed, ProofsAreAccepted}
 use Rattle.verify_core.specs.GoalDecisions.{DecidedGoal, Decides, IsDecisionOf, IsRankTable, IsTable, certificate, certificates, certified_in_file}
-use Rattle.verify_core.specs.Tables.{AreFound, HasFound}
+use Rattle.verify_core.specs.Tables.{AreBoundsFound, AreFound, AreRankingsFound, HasFound}
 use Rattle.verify_core.specs.Questions.{IsGoalOf}
 use Rattle.verify_core.specs.Rankings.{IsRankingGoal, ranked_in, ranked_loops}
 use Rattle.verify_core.proofs.CertOrder.{precedes_onward}
@@ -73,17 +73,17 @@ one_goal k id g (Unknown u) cs rest o ids p i c b f = f o (skipped k o (goal_nam
 abbrev AreNamed : ℕ → List GoalId → List DecidedGoal → Type 0
 AreNamed k ids ds = AllZip (λ id (d : DecidedGoal). (d.goal.proc ≡ k) × (d.goal.id ≡ id)) ids ds
 
-bounds_named : (ps : List TypedProcedure) (k : ℕ) (goals : List BoundGoal) (ds : List DecidedGoal) → AreFound (IsGoalOf ps k) Decides goals ds → AreNamed k (map goal_id goals) ds
-bounds_named ps k [] [] h = tt
-bounds_named ps k [] (d ∷ ds) h = absurd h
-bounds_named ps k (b ∷ goals) [] h = absurd h
-bounds_named ps k (b ∷ goals) (d ∷ ds) h = ((h.0.goal.proc, h.0.goal.id_of), bounds_named ps k goals ds h.1)
+bounds_named : (Finds : NamedGoal → Decision → Type 0) (ps : List TypedProcedure) (k : ℕ) (goals : List BoundGoal) (ds : List DecidedGoal) → AreFound (IsGoalOf ps k) Finds goals ds → AreNamed k (map goal_id goals) ds
+bounds_named Finds ps k [] [] h = tt
+bounds_named Finds ps k [] (d ∷ ds) h = absurd h
+bounds_named Finds ps k (b ∷ goals) [] h = absurd h
+bounds_named Finds ps k (b ∷ goals) (d ∷ ds) h = ((h.0.goal.proc, h.0.goal.id_of), bounds_named Finds ps k goals ds h.1)
 
-rankings_named : (ps : List TypedProcedure) (k : ℕ) (ns : List ℕ) (ds : List DecidedGoal) → AreFound (IsRankingGoal ps k) Decides ns ds → AreNamed k (map Ranking ns) ds
-rankings_named ps k [] [] h = tt
-rankings_named ps k [] (d ∷ ds) h = absurd h
-rankings_named ps k (n ∷ ns) [] h = absurd h
-rankings_named ps k (n ∷ ns) (d ∷ ds) h = ((h.0.goal.proc, h.0.goal.id_of), rankings_named ps k ns ds h.1)
+rankings_named : (Finds : NamedGoal → Decision → Type 0) (ps : List TypedProcedure) (k : ℕ) (ns : List ℕ) (ds : List DecidedGoal) → AreFound (IsRankingGoal ps k) Finds ns ds → AreNamed k (map Ranking ns) ds
+rankings_named Finds ps k [] [] h = tt
+rankings_named Finds ps k [] (d ∷ ds) h = absurd h
+rankings_named Finds ps k (n ∷ ns) [] h = absurd h
+rankings_named Finds ps k (n ∷ ns) (d ∷ ds) h = ((h.0.goal.proc, h.0.goal.id_of), rankings_named Finds ps k ns ds h.1)
 
 -- Some goals, and those that come later.
 of_goals : (k : ℕ) (ids later : List GoalId) (ds : List DecidedGoal) (rest : List GoalCert) (o : Option GoalName) → AreNamed k ids ds → IsChain k o (ids ++ later) → IsBelow (suc k) o → ((l : Option GoalName) → IsChain k l later → IsBelow (suc k) l → IsGrowingAfter l (certificates_of rest)) → IsGrowingAfter o (certificates_of (certificates ds ++ rest))
@@ -201,16 +201,17 @@ whole_chain ps k o q h b = rankings_behind k o (map goal_id (bound_goals q)) (in
 
 -- ---- The file
 
-of_file : (ps : List TypedProcedure) (k : ℕ) (qs : List TypedProcedure) (table ranks : List (List DecidedGoal)) (o : Option GoalName) → Each (MeetsRules ps) qs → IsTable ps k qs table → IsRankTable ps k qs ranks → IsBelow k o → IsGrowingAfter o (certificates_of (certified_in_file table ranks))
-of_file ps k [] [] ranks o r h t b = tt
-of_file ps k [] (ds ∷ table) ranks o r h t b = absurd h
-of_file ps k (q ∷ qs) [] ranks o r h t b = absurd h
-of_file ps k (q ∷ qs) (ds ∷ table) [] o r h t b = absurd t
-of_file ps k (q ∷ qs) (ds ∷ table) (rs ∷ ranks) o r h t b = of_procedure k (map goal_id (bound_goals q)) (map Ranking (ranked_loops q)) ds rs (certified_in_file table ranks) o (bounds_named ps k (bound_goals q) ds h.0) (rankings_named ps k (ranked_loops q) rs t.0) (whole_chain ps k o q r.0 b) (below_next k o b) (λ l x. of_file ps (suc k) qs table ranks l r.1 h.1 t.1 x)
+-- Whatever may be found of the goals.
+pub of_file : (Finds : NamedGoal → Decision → Type 0) (ps : List TypedProcedure) (k : ℕ) (qs : List TypedProcedure) (table ranks : List (List DecidedGoal)) (o : Option GoalName) → Each (MeetsRules ps) qs → AreBoundsFound Finds ps k qs table → AreRankingsFound Finds ps k qs ranks → IsBelow k o → IsGrowingAfter o (certificates_of (certified_in_file table ranks))
+of_file Finds ps k [] [] ranks o r h t b = tt
+of_file Finds ps k [] (ds ∷ table) ranks o r h t b = absurd h
+of_file Finds ps k (q ∷ qs) [] ranks o r h t b = absurd h
+of_file Finds ps k (q ∷ qs) (ds ∷ table) [] o r h t b = absurd t
+of_file Finds ps k (q ∷ qs) (ds ∷ table) (rs ∷ ranks) o r h t b = of_procedure k (map goal_id (bound_goals q)) (map Ranking (ranked_loops q)) ds rs (certified_in_file table ranks) o (bounds_named Finds ps k (bound_goals q) ds h.0) (rankings_named Finds ps k (ranked_loops q) rs t.0) (whole_chain ps k o q r.0 b) (below_next k o b) (λ l x. of_file Finds ps (suc k) qs table ranks l r.1 h.1 t.1 x)
 
 -- ---- The goals that they serve
 
-contains_left : (xs ys : List GoalCert) (c : GoalCert) → Contains xs c → Contains (xs ++ ys) c
+pub contains_left : (xs ys : List GoalCert) (c : GoalCert) → Contains xs c → Contains (xs ++ ys) c
 contains_left xs ys c h = (h.0, below xs h.0 h.1, at xs h.0 h.1 ∙ h.2)
   where
     below : (xs : List GoalCert) (k : ℕ) → k < length xs → k < length (xs ++ ys)
@@ -223,10 +224,10 @@ contains_left xs ys c h = (h.0, below xs h.0 h.1, at xs h.0 h.1 ∙ h.2)
     at (x ∷ xs) zero l = refl
     at (x ∷ xs) (suc k) l = at xs k (omega (arith, l))
 
-contains_behind : (x : GoalCert) (xs : List GoalCert) (c : GoalCert) → Contains xs c → Contains (x ∷ xs) c
+pub contains_behind : (x : GoalCert) (xs : List GoalCert) (c : GoalCert) → Contains xs c → Contains (x ∷ xs) c
 contains_behind x xs c h = let l = h.1 in (suc h.0, omega (arith, l), h.2)
 
-contains_right : (xs ys : List GoalCert) (c : GoalCert) → Contains ys c → Contains (xs ++ ys) c
+pub contains_right : (xs ys : List GoalCert) (c : GoalCert) → Contains ys c → Contains (xs ++ ys) c
 contains_right [] ys c h = h
 contains_right (x ∷ xs) ys c h = contains_behind x (xs ++ ys) c (contains_right xs ys c h)
 
@@ -273,4 +274,4 @@ tables_served law ps certs k (q ∷ qs) (ds ∷ table) (rs ∷ ranks) h t f =
 pub proofs_are_accepted : TreesCertify → ProofsAreAccepted
 proofs_are_accepted law ps table ranks rules h t =
     let served = tables_served law ps (certified_in_file table ranks) 0 ps table ranks h t (λ c x. x) in
-    record { order = of_file ps 0 ps table ranks None rules h t tt; accepted = served.0; ranked = served.1 }
+    record { order = of_file Decides ps 0 ps table ranks None rules h t tt; accepted = served.0; ranked = served.1 }

@@ -43,3 +43,16 @@ ProvedGoalsAreAccepted = (ps : List TypedProcedure) (table ranks : List (List De
 -- Of the rankings of a typed file nothing is missed that is proved with a tree.
 abbrev pub ProvedRankingsAreAccepted : Type 0
 ProvedRankingsAreAccepted = (ps : List TypedProcedure) (table ranks : List (List DecidedGoal)) (checked : List (List CheckedGoal)) → Each (MeetsRules ps) ps → IsTable ps 0 ps table → IsRankTable ps 0 ps ranks → IsCheckedRankTable ps (certified_in_file table ranks) 0 ps checked → NothingIsMissedThroughout ranks checked
+
+-- Where the goal isn't proved with a tree, something is missed of it.
+abbrev pub IsMissed : DecidedGoal → CheckedGoal → Type 0
+IsMissed d c = ((t : Tree) → d.found ≡ Proved (Some t) → ⊥) → c.found ≡ None → ⊥
+
+-- So of each goal of a procedure, and so in each procedure.
+abbrev pub OthersAreMissed : List (List DecidedGoal) → List (List CheckedGoal) → Type 0
+OthersAreMissed table checked = AllZip (λ (ds : List DecidedGoal) (cs : List CheckedGoal). AllZip IsMissed ds cs) table checked
+
+-- What decisions don't prove, their certificates don't show: of bounds, and of rankings.
+abbrev pub OtherGoalsAreMissed : Type 0
+OtherGoalsAreMissed = (ps : List TypedProcedure) (table ranks : List (List DecidedGoal)) (checked checked_ranks : List (List CheckedGoal)) → Each (MeetsRules ps) ps → IsTable ps 0 ps table → IsRankTable ps 0 ps ranks
+    → IsCheckedTable ps (certified_in_file table ranks) 0 ps checked → IsCheckedRankTable ps (certified_in_file table ranks) 0 ps checked_ranks → OthersAreMissed table checked × OthersAreMissed ranks checked_ranks

@@ -1,6 +1,6 @@
 //! The laws. Each function does nothing: its contract is the law.
 
-ghost use Rattle.verify_core.specs.CheckedProofs.{ProofsAreAccepted, ProvedGoalsAreAccepted, ProvedRankingsAreAccepted};
+ghost use Rattle.verify_core.specs.CheckedProofs.{OtherGoalsAreMissed, ProofsAreAccepted, ProvedGoalsAreAccepted, ProvedRankingsAreAccepted};
 ghost use Rattle.verify_core.specs.FreshVariables as new;
 ghost use Rattle.verify_core.specs.GoalLaws.{MadeGoalsSayBounds};
 ghost use Rattle.verify_core.specs.PromisedAnswers.{AnswersKeepPromises, CheckedAnswersKeepPromises};
@@ -32,11 +32,12 @@ pub fn made_goals_lack_fresh_variables()
 }
 
 /// The certificates that decisions give are in the order of a text, each goal that is proved with a tree, of a bound or of a
-/// ranking, is accepted by them, and nothing is found against it.
+/// ranking, is accepted by them, and nothing is found against it; and of each other goal something is missed.
 pub fn proved_goals_are_accepted()
     ensures accepted { ProofsAreAccepted }
     ensures nothing_missed { ProvedGoalsAreAccepted }
     ensures no_ranking_missed { ProvedRankingsAreAccepted }
+    ensures others_missed { OtherGoalsAreMissed }
 {
     walk_trees_certify();
     certificates_are_told_apart();
