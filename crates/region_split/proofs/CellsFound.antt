@@ -33,7 +33,7 @@ pub point_of : (g : Goal) (ps : List Taken) (values point : List Val) → IsPoin
 point_of g ps values point p e = record { rows = p.rows; are_rows = p.are_rows; values = values; greedy = p.greedy; truths = e }
 
 pub breaks : (g : Goal) (ps : List Taken) (b : Broken) → IsBreakOf g ps b → Breaks g ps
-breaks g ps b p = record { rows = p.rows; are_rows = p.are_rows; var = b.var; earlier = p.broken.chosen; interval = ends_of b; choice = p.broken.choice }
+breaks g ps b p = record { rows = p.rows; are_rows = p.are_rows; solvable = p.broken.solvable; var = b.var; earlier = p.broken.chosen; interval = ends_of b; choice = p.broken.choice }
 
 -- ---- The ends of cells
 

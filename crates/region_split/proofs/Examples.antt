@@ -90,5 +90,5 @@ unfolding order_of
 falsified = record {
   cells = [] ∷ [];
   walked = record { are_cells = AreCells.end [] (zero, one) false_kept false_end (IsSettled.falsified false_cell); few = omega arith };
-  first = record { before = []; cell = []; after = []; whole = refl; ends = []; are_ends = EndsOf.start; broken = All-nil _; is_cell = false_cell.cell; gives = HasFirstPoint.whole 0 [] [] false_piece (record { rows = below_zero ∷ []; are_rows = denied_row; values = []; greedy = record { chosen = []; choice = Chooses.ends []; state = record { each = refl; values = λ x l. absurd (omega (arith, l)) } }; truths = refl }) };
+  first = record { before = []; cell = []; after = []; whole = refl; ends = []; are_ends = EndsOf.start; broken = All-nil _; is_cell = false_cell.cell; gives = HasFirstPoint.whole 0 [] [] false_piece (record { rows = below_zero ∷ []; are_rows = denied_row; values = []; greedy = record { solvable = denied_solvable; chosen = []; choice = Chooses.ends []; state = record { each = refl; values = λ x l. absurd (omega (arith, l)) } }; truths = refl }) };
 }

@@ -23,7 +23,7 @@ use Rattle.linear_form.specs.declared.questions.Ask as K
 use Rattle.linear_form.specs.declared.paths.Atom as A
 use Rattle.linear_values.specs.declared.lin.Lin as L
 use Rattle.linear_rows.proofs.exported.Combinations.{contradiction_unsolvable}
-use Rattle.linear_elim.specs.Answers.{MeetsAll, IsTooGreat, IsShortLimited, eliminated}
+use Rattle.linear_elim.specs.Answers.{HasNarrowEnds, IsBreak, MeetsAll, IsTooGreat, IsShortLimited, eliminated}
 use Rattle.linear_elim.specs.Elimination.Outcome.{too_many}
 use Rattle.goal_answers.specs.declared.causes.Broken.{Broken}
 use Rattle.goal_answers.specs.declared.causes.Cause.TheVariants.{Bits, Rows}
@@ -36,6 +36,9 @@ use Rattle.region_split.specs.internal.Trails.{IsDroppedBy}
 
 pub has_point : (g : Goal) (ps : List Taken) (denied : Bool) (rows : List Row) (point : List Val) → rows_of g ps denied ≡ Some rows → IsGreedyPoint rows g.types point → MeetsAll point rows → IsPointAt g ps denied point
 has_point g ps denied rows point e greedy meets = record { rows = rows; are_rows = e; solvable = record { at_values = λ x. number_of (environment point x); meets = meets }; greedy = greedy }
+
+pub has_break : (g : Goal) (ps : List Taken) (denied : Bool) (rows : List Row) (b : Broken) → rows_of g ps denied ≡ Some rows → IsBreak rows g.types b × HasNarrowEnds b → IsBreakAt g ps denied b
+has_break g ps denied rows b e h = record { rows = rows; are_rows = e; broken = h.0; narrow = h.1 }
 
 looks : (g : Goal) (ps : List Taken) (denied : Bool) (rows : List Row) (cells : List (List Taken)) → rows_of g ps denied ≡ Some rows → Looks g ps denied cells → Eliminates g ps rows
 looks g ps false rows cells e r = Eliminates.of_front cells r e

@@ -1,9 +1,12 @@
 -- How a piece that is split shows what its halves show.
 use Prim.Native.Nat.{suc}
-use Rattle.std.proofs.Common.{◌≡◌, ℕ, ℤ, ◌+◌, ◌<◌, ◌≤◌, ◌^◌, List, [], ◌∷◌, ◌++◌, length, take, refl, sym, ap, ◌∙◌, subst, arith, length-append, Vec, Global, Bool, true, false}
+use Rattle.std.proofs.Common.{◌≡◌, ℕ, ℤ, ◌+◌, ◌<◌, ◌≤◌, ◌^◌, List, [], ◌∷◌, ◌++◌, length, take, refl, sym, ap, ◌∙◌, subst, arith, length-append, Vec, Global, Bool, true, false, pos, unsigned_abs}
 use Rattle.std.specs.List.{All}
-use Rattle.std.specs.Prelude.{Option, None, Some, cond, Result, IfOk}
+use Rattle.std.specs.Prelude.{Option, None, Some, cond, is_some, negsuc, Result, IfOk}
+use Rattle.std.specs.Int.{int_div_euclid}
+use Rattle.std.proofs.Math.Nat.{div-le_self}
 use Rattle.std.proofs.lemmas.List.Elements.{All-append, All-cons, All-nil}
+use Rattle.heyvl_num.specs.Rational.{Rational}
 use Rattle.heyvl_num.specs.Rounding.{floorʳ}
 use Rattle.heylo_formula.specs.Goals.{Goal}
 use Rattle.heylo_formula.specs.TypedGoals.{IsTypedGoal}
@@ -30,6 +33,8 @@ use Rattle.linear_form.specs.Questions.{Ends}
 use Rattle.linear_form.specs.RowLists.{ArePathRows, LackLastRow}
 use Rattle.linear_form.specs.Splits.{split_at}
 use Rattle.linear_form.specs.declared.questions.Ask as K
+use Rattle.linear_rows.proofs.exported.Narrow.{num_less}
+use Rattle.linear_rows.specs.Numbers.{fits}
 use Rattle.linear_rows.specs.Row.{Row}
 use Rattle.linear_rows.specs.Terms.{is_narrow}
 use Rattle.region_split.proofs.CellOrder.{front_path}
@@ -40,7 +45,8 @@ use Rattle.region_split.proofs.Steps.{cell_of, not_plain_there, path_onto}
 use Rattle.region_split.proofs.PathAnswers.{no_rows}
 use Rattle.region_split.proofs.Trails.{unstated_denied}
 use Rattle.region_split.proofs.TypedBreaks.{break_of}
-use Rattle.region_split.specs.Decisions.{IsLarge, IsLookedAt}
+use Rattle.region_split.specs.DecisionLaws.{SplitsAreNarrow}
+use Rattle.region_split.specs.Decisions.{IsLookedAt}
 use Rattle.region_split.specs.PathPoints.{Breaks, with_truths}
 use Rattle.region_split.specs.Pieces.{AreEnds, BreaksAbove, HasFirstPoint, IsPieceOf, IsSplitAt, first_half, second_half}
 use Rattle.region_split.specs.declared.front.End as E
@@ -66,9 +72,6 @@ second_ends g n ps x m es cause s a b h cells l linear = h cells (at_second g n 
 pub piece_ends : (g : Goal) (n : ℕ) (ps : List Taken) (cause : Cause) → EndsWalk g ps true cause → EndsPiece g n ps cause
 piece_ends g n ps cause h cells l linear = h cells (n, l) linear
 
-too_great_a_split : (g : Goal) (n : ℕ) (ps : List Taken) (x : ℕ) (m : ℤ) → n < 8 → BreaksAbove g ps x m → is_narrow m ≡ false → EndsPiece g n ps Bits
-too_great_a_split g n ps x m k b e cells l linear = (linear, IsLarge.in_split n ps cells x m k l b e)
-
 -- ---- What the halves show
 
 pub all_broken : (g : Goal) (n : ℕ) (ps : List Taken) (b : Broken) (k : IsBroken g n ps b) → All (Breaks g) (k.path ∷ k.after)
@@ -88,9 +91,24 @@ deepest_breaks g n ps rows e b t s l h =
 -- ---- Where a piece is split
 
 pub breaks_above : (g : Goal) (ps : List Taken) (b : Broken) (m : ℤ) → IsBreakAt g ps true b → m ≡ floorʳ b.low → BreaksAbove g ps b.var m
-breaks_above g ps b m h e = record { rows = h.rows; are_rows = h.are_rows; earlier = h.broken.chosen; interval = ends_of b; choice = h.broken.choice; low = record { place = b.low; inside = b.low_in }; has_low = refl; bound = e }
+breaks_above g ps b m h e = record { rows = h.rows; are_rows = h.are_rows; solvable = h.broken.solvable; earlier = h.broken.chosen; interval = ends_of b; choice = h.broken.choice; low = record { place = b.low; inside = b.low_in }; has_low = refl; bound = e }
 
--- a number that is below the bound, and one that reaches it
+-- the floor of a fraction whose numerator is below the bound
+floor_small : (a : ℤ) (b : ℕ) → 0 < b → unsigned_abs (int_div_euclid a (pos b)) ≤ unsigned_abs a
+floor_small (pos a) b p = div-le_self a b
+floor_small (negsuc a) b p = omega (arith, div-le_self a b)
+
+floor_narrow : (x : Rational) → fits x ≡ true → is_narrow (floorʳ x) ≡ true
+unfolding floorʳ
+floor_narrow x h = let s = floor_small x.num x.den x.positive in let n = num_less x h in narrow_where (int_div_euclid x.num (pos x.den)) (omega (arith, s, n))
+  where
+    narrow_where : (z : ℤ) → unsigned_abs z < 2 ^ 62 → is_narrow z ≡ true
+    narrow_where z h = grind arith
+
+pub splits_narrow : SplitsAreNarrow
+splits_narrow rows types b h = floor_narrow b.low h.1.low
+
+-- a number that is below the bound
 narrow_found : (z m : ℤ) → Some m ≡ narrow_value z → (is_narrow z ≡ true) × (m ≡ z)
 narrow_found z m h = go (is_narrow z) h
   where
@@ -98,20 +116,13 @@ narrow_found z m h = go (is_narrow z) h
     go true h = (refl, cc)
     go false h = absurd (cc)
 
-narrow_lost : (z : ℤ) → None ≡ narrow_value z → is_narrow z ≡ false
-narrow_lost z h = go (is_narrow z) h
-  where
-    go : (b : Bool) → None ≡ cond b (Some z) None → b ≡ false
-    go true h = absurd (cc)
-    go false h = refl
-
 pub split_here : (g : Goal) (n : ℕ) (ps : List Taken) (rows : List Row) (e : E.End) (b : Broken) (z m : ℤ) → IsPieceStand g n ps rows e → n < 8 → IsBreakAt g ps true b → z ≡ floorʳ b.low → Some m ≡ narrow_value z → IsSplitAt g n ps b.var m
 split_here g n ps rows e b z m s l h f k =
     let o = narrow_found z m k in
     record { few = l; false_piece = break_is_false g ps b s.not_plain h; breaks = breaks_above g ps b m h (o.1 ∙ f); narrow = ap is_narrow o.1 ∙ o.0 }
 
-pub no_split_here : (g : Goal) (n : ℕ) (ps : List Taken) (b : Broken) (z : ℤ) → n < 8 → IsBreakAt g ps true b → z ≡ floorʳ b.low → None ≡ narrow_value z → EndsPiece g n ps Bits
-no_split_here g n ps b z l h f k = too_great_a_split g n ps b.var z l (breaks_above g ps b z h f) (narrow_lost z k)
+pub some_split_here : (g : Goal) (ps : List Taken) (b : Broken) (z : ℤ) (o : Option ℤ) → IsBreakAt g ps true b → z ≡ floorʳ b.low → o ≡ narrow_value z → is_some o ≡ true
+some_split_here g ps b z o h f k = let n : is_narrow z ≡ true = ap is_narrow f ∙ floor_narrow b.low h.narrow.low in ap is_some k ∙ ap (λ (t : Bool). is_some (cond t (Some z) None)) n
 
 -- the values of the two forms at an end
 the_ends : (g : Goal) (ps : List Taken) (e : E.End) → Answers (K.TheVariants.End e.stated e.found) (end_at g ps) → (f : Ends) × (end_at g ps ≡ done f)

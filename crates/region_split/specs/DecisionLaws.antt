@@ -1,9 +1,15 @@
 -- What is proved of walks and decisions, for the crates above.
-use Rattle.std.specs.Prelude.{◌≡◌, ℕ, ℤ, List, [], Option, Some, None}
+use Rattle.std.specs.Prelude.{◌≡◌, ℕ, ℤ, List, [], Option, Some, None, true}
+use Rattle.heyvl_num.specs.Rounding.{floorʳ}
 use Rattle.heylo_formula.specs.Goals.{Goal}
 use Rattle.linear_form.specs.Query.{Taken}
 use Rattle.linear_form.specs.Nonlinear.{nonlinear_product}
 use Rattle.heylo_formula.specs.TypedGoals.{IsTypedGoal, HasItsVariables}
+use Rattle.heylo_formula.specs.declared.types.Ty.{Ty}
+use Rattle.linear_elim.specs.Answers.{IsAnswer}
+use Rattle.linear_elim.specs.declared.answers.Elim.TheVariants as eliminations
+use Rattle.linear_rows.specs.Row.{Row}
+use Rattle.linear_rows.specs.Terms.{is_narrow}
 use Rattle.goal_answers.specs.declared.causes.Broken.{Broken}
 use Rattle.goal_answers.specs.declared.causes.Cause.{Cause}
 use Rattle.goal_answers.specs.declared.causes.Cause.TheVariants.{Nonlinear, Cells, Rows, Bits, Fraction}
@@ -84,6 +90,10 @@ IsSameDecision (Proved t) (Proved u) = GiveAlike t u
 IsSameDecision (Falsified p) (Falsified q) = p.items ≡ q.items
 IsSameDecision (Unknown c) (Unknown d) = IsSameCause c d
 IsSameDecision d e = ⊥
+
+-- Where the greedy choice breaks, a piece is split at the floor of the low end, which is below 2^62 in absolute value.
+abbrev pub SplitsAreNarrow : Type 0
+SplitsAreNarrow = (rows : List Row) (types : List Ty) (b : Broken) → IsAnswer rows types (eliminations.Fraction b) → is_narrow (floorʳ b.low) ≡ true
 
 -- A goal has one decision, but for the multipliers of its tree, unless there are too many rows or a number is too great.
 abbrev pub DecisionsAreUnique : Type 0

@@ -1,5 +1,5 @@
 -- What each decision says of a goal. This project's own.
-use Rattle.std.specs.Prelude.{◌≡◌, ℕ, ℤ, ◌+◌, ◌≤◌, ◌<◌, List, [], ◌∷◌, ◌++◌, length, true, false, Option, Some, None}
+use Rattle.std.specs.Prelude.{◌≡◌, ℕ, ◌+◌, ◌≤◌, ◌<◌, List, [], ◌∷◌, ◌++◌, length, true, false, Option, Some, None}
 use Rattle.std.specs.List.{All}
 use Rattle.heylo_formula.specs.Goals.{Goal}
 use Rattle.heylo_formula.specs.declared.values.Val.{Val}
@@ -10,7 +10,6 @@ use Rattle.linear_form.specs.PathRows.{rows_of, IsPlainAt}
 use Rattle.linear_form.specs.Nonlinear.{nonlinear_product}
 use Rattle.linear_rows.specs.Row.{Row}
 use Rattle.linear_form.specs.Cells.{IsDropped, IsKeptPath, IsCell}
-use Rattle.linear_rows.specs.Terms.{is_narrow}
 use Rattle.linear_elim.specs.Elimination.Outcome.{too_many}
 use Rattle.linear_elim.specs.Answers.{eliminated, IsTooGreat, IsShortLimited}
 use Rattle.goal_answers.specs.declared.causes.Broken.{Broken}
@@ -19,7 +18,7 @@ use Rattle.goal_answers.specs.declared.causes.Cause.TheVariants.{Depth, Nodes, N
 use Rattle.goal_answers.specs.Trees.{Tree, tree_of, depth}
 use Rattle.goal_answers.specs.declared.trees.Tree as T
 use Rattle.region_split.specs.PathPoints.{Breaks, IsBreakOf}
-use Rattle.region_split.specs.Pieces.{BreaksAbove, EndsOf, HasFirstPoint, IsPieceOf}
+use Rattle.region_split.specs.Pieces.{EndsOf, HasFirstPoint, IsPieceOf}
 use Rattle.region_split.specs.Walk.{AreBefore, IsReached, IsWalked}
 use Rattle.region_split.specs.WalkTree.{IsWalkTree}
 use Rattle.goal_answers.specs.declared.decisions.Decision.{Decision}
@@ -58,14 +57,13 @@ pub record HasManyRows (g : Goal) (steps : ℕ) (count : ℕ) : Type 0 where
   pub short : IsShortLimited rows g.types
 
 -- The walk ends where it reaches a number that is too great: a value of a front that is kept; a row of a front; the row of the
--- denied goal at a dropped front, or a row of a piece; the whole number at which a piece would be split; or a number of the rows that
--- it eliminates, where the elimination without dominated rows meets a limit too.
+-- denied goal at a dropped front, or a row of a piece; or a number of the rows that it eliminates, where the elimination without
+-- dominated rows meets a limit too.
 pub data IsLarge (g : Goal) : Type 0 where
   in_values : (ps : List Taken) (cells : List (List Taken)) → IsReached g ps cells → IsKeptPath g ps → end_at g ps ≡ bits → IsLarge g
   in_rows : (ps : List Taken) (cells : List (List Taken)) → IsReached g ps cells → rows_of g ps false ≡ None → IsLarge g
   in_denied_goal : (ps : List Taken) (cells : List (List Taken)) → IsReached g ps cells → IsDropped g ps → rows_of g ps true ≡ None → IsLarge g
   in_piece : (n : ℕ) (ps : List Taken) (cells : List (List Taken)) → IsLookedAt g n ps cells → rows_of g ps true ≡ None → IsLarge g
-  in_split : (n : ℕ) (ps : List Taken) (cells : List (List Taken)) (x : ℕ) (m : ℤ) → n < 8 → IsLookedAt g n ps cells → BreaksAbove g ps x m → is_narrow m ≡ false → IsLarge g
   in_elimination : (ps : List Taken) (rows : List Row) → Eliminates g ps rows → IsTooGreat rows g.types → IsShortLimited rows g.types → IsLarge g
 
 -- The first end among those of these cells whose greedy choice doesn't break gives the point. What lies behind it isn't split.

@@ -14,6 +14,7 @@ use Rattle.linear_form.specs.PathRows.{rows_of}
 use Rattle.linear_form.specs.Query.{Taken, known}
 use Rattle.linear_rows.specs.GreedyPoint.{Interval, Greedy, ChoosesFrom, IsGreedyPoint}
 use Rattle.linear_rows.specs.Row.{Row}
+use Rattle.linear_rows.specs.Solutions.{IsSolvable}
 
 -- A Boolean that the path has decided has its truth.
 abbrev pub value_on : Option Bool → Val → Val
@@ -25,7 +26,7 @@ abbrev pub with_truths : List Taken → ℕ → List Val → List Val
 with_truths ps x [] = []
 with_truths ps x (v ∷ vs) = value_on (known x ps) v ∷ with_truths ps (suc x) vs
 
--- The greedy point of a path's rows with the denied goal, with the truths of the path.
+-- The rows of a path with the denied goal are solvable, and this is their greedy point, with the truths of the path.
 pub record IsPointOf (g : Goal) (ps : List Taken) (point : List Val) : Type 0 where
   pub rows : List Row
   pub are_rows : rows_of g ps true ≡ Some rows
@@ -40,10 +41,11 @@ pub record IsBreakOf (g : Goal) (ps : List Taken) (b : Broken) : Type 0 where
   pub broken : IsBreak rows g.types b
   pub typed : All (λ c. has (types_in g.types c.0) c.1 ≡ true) b.earlier.items
 
--- The greedy choice for these rows breaks.
+-- The rows of a path with the denied goal are solvable, and their greedy choice breaks.
 pub record Breaks (g : Goal) (ps : List Taken) : Type 0 where
   pub rows : List Row
   pub are_rows : rows_of g ps true ≡ Some rows
+  pub solvable : IsSolvable rows
   pub var : ℕ
   pub earlier : List (ℕ × Rational)
   pub interval : Interval

@@ -26,11 +26,12 @@ pub record IsFalse (g : Goal) (ps : List Taken) : Type 0 where
   pub are_rows : rows_of g ps true ≡ Some rows
   pub solvable : IsSolvable rows
 
--- The greedy choice for the path's rows with the denied goal breaks at the variable x, and m is the greatest whole number that isn't above
--- the low end of its interval.
+-- The path's rows with the denied goal are solvable, their greedy choice breaks at the variable x, and m is the greatest whole number that
+-- isn't above the low end of its interval.
 pub record BreaksAbove (g : Goal) (ps : List Taken) (x : ℕ) (m : ℤ) : Type 0 where
   pub rows : List Row
   pub are_rows : rows_of g ps true ≡ Some rows
+  pub solvable : IsSolvable rows
   pub earlier : List (ℕ × Rational)
   pub interval : Interval
   pub choice : ChoosesFrom rows g.types (Greedy.broke x earlier interval)

@@ -20,6 +20,11 @@ pub fn walks_are_unique()
     ensures before { law.CellsBeforeAreUnique }
 {}
 
+/// The number at which a piece is split is below 2^62 in absolute value, since the ends of a greedy choice that breaks are.
+pub fn splits_are_narrow()
+    ensures { law.SplitsAreNarrow }
+{}
+
 /// A goal has one decision but for the multipliers of its tree and for too many rows and too great numbers.
 pub fn decisions_are_unique()
     ensures { law.DecisionsAreUnique }

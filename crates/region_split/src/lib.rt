@@ -23,6 +23,6 @@ mod walk;
 
 pub use decision::decide;
 pub use decision_laws::{
-    decisions_are_unique, decisions_tell, walk_trees_certify, walks_are_unique,
+    decisions_are_unique, decisions_tell, splits_are_narrow, walk_trees_certify, walks_are_unique,
 };
 pub use goal_answers::Decision;

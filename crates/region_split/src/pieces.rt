@@ -96,16 +96,11 @@ pub fn broken_piece(
     if splits >= MOST_SPLITS {
         return Ok(Piece::Broke(Box::new(alloc, broken)?));
     }
-    match narrow(broken.low.floor()) {
-        Some(bound) => {
-            let at = Split {
-                variable: broken.var,
-                bound,
-            };
-            halves(alloc, goal, path, rows, end, splits, &at)
-        }
-        None => Ok(Piece::Unknown(Cause::Bits)),
-    }
+    let at = Split {
+        variable: broken.var,
+        bound: narrow(broken.low.floor()).unwrap(),
+    };
+    halves(alloc, goal, path, rows, end, splits, &at)
 }
 
 /// What a piece shows that is split here: what its first half shows, and then what its second half does. Behind a point nothing more is

@@ -16,7 +16,7 @@ use Rattle.linear_form.specs.declared.questions.Ask as K
 use Rattle.linear_rows.specs.Solutions.{IsSolvable}
 use Rattle.linear_rows.specs.GreedyPoint.{IsGreedyPoint}
 use Rattle.linear_form.specs.Cells.{IsKeptPath, GoesOn}
-use Rattle.linear_elim.specs.Answers.{IsBreak}
+use Rattle.linear_elim.specs.Answers.{IsBreak, HasNarrowEnds}
 use Rattle.goal_answers.specs.declared.causes.Broken.{Broken}
 use Rattle.goal_answers.specs.declared.causes.Cause.{Cause}
 use Rattle.farkas_check.specs.AcceptedCertificates.{IsRefutedWith}
@@ -48,11 +48,12 @@ pub record IsPointAt (g : Goal) (ps : List Taken) (denied : Bool) (point : List 
   pub solvable : IsSolvable rows
   pub greedy : IsGreedyPoint rows g.types point
 
--- The rows of the path are solvable, and their greedy choice breaks, as told.
+-- The rows of the path are solvable, and their greedy choice breaks at `b`, between ends below 2^62.
 pub record IsBreakAt (g : Goal) (ps : List Taken) (denied : Bool) (b : Broken) : Type 0 where
   pub rows : List Row
   pub are_rows : rows_of g ps denied ≡ Some rows
   pub broken : IsBreak rows g.types b
+  pub narrow : HasNarrowEnds b
 
 -- The walk looks at these rows of a path, with these cells before it: at those without the denied goal at a front that it reaches, at
 -- those with it at a piece of a cell.

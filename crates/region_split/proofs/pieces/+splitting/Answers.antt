@@ -16,7 +16,7 @@ use Rattle.region_split.specs.PathPoints.{with_truths}
 use Rattle.region_split.specs.Pieces.{HasFirstPoint, IsSplitAt}
 use Rattle.region_split.specs.internal.Progress.{IsBroken, IsPieceStand}
 use Rattle.region_split.proofs.PathAnswers.{no_rows}
-use Rattle.region_split.proofs.PieceSteps.{same_shown, deepest_breaks, few_rows, few_variables, first_ends, half_is_path, half_lost, half_onto, half_stands, lacks_half, no_split_here, piece_closed, piece_ends, piece_given, split_here}
+use Rattle.region_split.proofs.PieceSteps.{same_shown, deepest_breaks, few_rows, few_variables, first_ends, half_is_path, half_lost, half_onto, half_stands, lacks_half, piece_closed, piece_ends, piece_given, some_split_here, split_here}
 use Rattle.region_split.proofs.Steps.{path_length, point_length}
 use Rattle.region_split.proofs.pieces.+splitting.Goals as goal
 
@@ -110,14 +110,14 @@ broken_piece-halves-requires t c =
     let ps = path_of c.args.path.now in
     let d = c.decreases in
     let f : FitsSigned w128 c.floor.result = search rules in
-    let b : FitsSigned w64 c.in-Some.bound = search rules in
-    let s = split_here g c.args.splits ps c.args.rows.now c.args.end.now c.args.broken _ c.in-Some.bound c.requires.stands c.if-splits-ge-MOST_SPLITS.false c.requires.breaks (to_z-of_z w128 c.floor.result f ∙ c.floor.ensures.value) c.in-Some.ensures in
-    (omega (arith, d), (c.requires.typed, (c.requires.stands, subst (IsSplitAt g c.args.splits ps c.args.broken.var) (sym (to_z-of_z w64 c.in-Some.bound b)) s)))
+    let b : FitsSigned w64 c.unwrap.result = search rules in
+    let s = split_here g c.args.splits ps c.args.rows.now c.args.end.now c.args.broken _ c.unwrap.result c.requires.stands c.if-splits-ge-MOST_SPLITS.false c.requires.breaks (to_z-of_z w128 c.floor.result f ∙ c.floor.ensures.value) (sym c.unwrap.ensures ∙ c.narrow.ensures) in
+    (omega (arith, d), (c.requires.typed, (c.requires.stands, subst (IsSplitAt g c.args.splits ps c.args.broken.var) (sym (to_z-of_z w64 c.unwrap.result b)) s)))
 
-pub broken_piece-returns : goal.broken_piece-returns
-broken_piece-returns t c =
+pub broken_piece-unwrap-requires : goal.broken_piece-unwrap-requires
+broken_piece-unwrap-requires t c =
     let f : FitsSigned w128 c.floor.result = search rules in
-    no_split_here (goal_of c.args.goal.now) c.args.splits (path_of c.args.path.now) c.args.broken _ c.if-splits-ge-MOST_SPLITS.false c.requires.breaks (to_z-of_z w128 c.floor.result f ∙ c.floor.ensures.value) c.in-None.ensures
+    some_split_here (goal_of c.args.goal.now) (path_of c.args.path.now) c.args.broken _ c.narrow.result c.requires.breaks (to_z-of_z w128 c.floor.result f ∙ c.floor.ensures.value) c.narrow.ensures
 
 -- ---- A piece that is split
 
