@@ -1,4 +1,4 @@
-"""The sums over the runs of a procedure for growing numbers of steps, and its pre, all as `caesar run` works them out."""
+"""The sums over the runs of a procedure for growing numbers of steps, and its pre, both by `caesar run`."""
 import os
 import re
 import tempfile
@@ -23,7 +23,8 @@ class Point(typing.NamedTuple):
 
 
 class Series(typing.NamedTuple):
-    """The points, the pre, whether the procedure bounds from below, the inputs that the script sets, and why the points end early, or nothing."""
+    """The points, the pre, whether it is a bound from below, the inputs that the script sets, and why the points end
+    early, or an empty text."""
 
     points: list
     pre: typing.Optional[Fraction]
@@ -33,10 +34,12 @@ class Series(typing.NamedTuple):
 
 
 def number(text):
+    """Returns the number of a text; infinity is None."""
     return None if text == "infinity" else Fraction(text)
 
 
 def written(value):
+    """Returns the text of a number."""
     return "infinity" if value is None else str(value)
 
 
@@ -47,6 +50,7 @@ class Runs:
         self.program, self.folder, self.end = program, folder, None if seconds is None else time.monotonic() + seconds
 
     def answer(self, file, procedure, script):
+        """Returns the answer of `caesar run` with a script of this text."""
         path = os.path.join(self.folder, "script")
         with open(path, "wb") as written_script:
             written_script.write(calls.encoded(script))
@@ -57,7 +61,7 @@ class Runs:
         """Returns the sums by their names, or None where the run stops or the time is over."""
         answer = self.answer(file, procedure, script)
         if answer.status == 0:
-            return dict((name, number(value)) for name, value in SUM.findall(answer.output))
+            return sums_of(answer)
         if answer.status in (8, None):
             return None
         raise calls.Refusal(answer.output.strip(), answer.status)
@@ -66,19 +70,23 @@ class Runs:
         """Returns the pre in the state of the script: the post of a procedure that does nothing."""
         head = "@wlp proc" if procedure.is_weak else "coproc"
         inputs = ", ".join(f"{name}: {type_name}" for name, type_name in procedure.inputs)
-        posts = "\n".join("post" + text[clause.start + 3 : clause.end] for clause in procedure.clauses if clause[0] == "pre")
+        pres = [clause for clause in procedure.clauses if clause[0] == "pre"]
+        posts = "\n".join("post" + text[clause.start + 3 : clause.end] for clause in pres)
         path = os.path.join(self.folder, "bound.heyvl")
         with open(path, "wb") as file:
             file.write(calls.encoded(f"{head} bound({inputs}) -> ()\n{posts}\n{{ }}\n"))
         names = [name for name, _ in procedure.inputs]
         lines = [line for line in script.splitlines() if line.startswith("set ") and line.split(" ")[1] in names]
-        sums = self.sums(path, "bound", "\n".join(["steps 1", *lines]))
-        return sums["post"] if sums else None
+        answer = self.answer(path, "bound", "\n".join(["steps 1", *lines]))
+        if answer.status != 0:
+            cause = answer.output.strip().rpartition(": ")[2] or "the time is over"
+            raise calls.Refusal(f"the pre is not known: {cause}", 8)
+        return sums_of(answer)["post"]
 
 
-def steps_of(script):
-    """Returns the number of steps in a script's first line, which has been read by the program."""
-    return int(script.split("\n", 1)[0].split(" ")[1])
+def sums_of(answer):
+    """Returns the sums of an answer by their names."""
+    return {name: number(value) for name, value in SUM.findall(answer.output)}
 
 
 def of_procedure(program, file, name, script, most=100, seconds=None):
@@ -87,21 +95,23 @@ def of_procedure(program, file, name, script, most=100, seconds=None):
         runs = Runs(program, folder, seconds)
         answer = runs.answer(file, name, script)
         if answer.status not in (0, 8):
-            raise calls.Refusal(refusal(file, answer), answer.status or 2)
-        text, steps = calls.read_text(file), steps_of(script)
+            raise calls.Refusal(refusal(file, answer), answer.status or 8)
+        text, (first, _, rest) = calls.read_text(file), script.partition("\n")
+        steps = int(first.split(" ")[1])
         stopped = STOPPED.fullmatch(answer.output)
         last = min(steps, int(stopped[1])) if stopped else steps
         procedure = next(procedure for procedure in heyvl.read(text) if procedure.name == name)
         pre, points, count = runs.pre(text, procedure, script), [], min(last, most)
         for at in range(count + 1):
             number_of_steps = last * at // count if count else 0
-            sums = runs.sums(file, name, script.replace(f"steps {steps}", f"steps {number_of_steps}", 1))
+            sums = runs.sums(file, name, f"steps {number_of_steps}\n{rest}")
             if sums is None:
                 stopped = stopped or "the time is over"
                 break
             points.append(Point(number_of_steps, *(sums[key] for key in ("post", "reward", "running"))))
         settings = [line[4:].replace(" ", " = ", 1) for line in script.splitlines() if line.startswith("set ")]
-        return Series(points, pre, procedure.is_weak, settings, answer.output.strip() if answer.status == 8 else stopped or "")
+        end = answer.output.strip() if answer.status == 8 else stopped or ""
+        return Series(points, pre, procedure.is_weak, settings, end)
 
 
 def refusal(file, answer):
