@@ -6,4 +6,5 @@ mod AlikeVerdicts
 mod SingleTables
 mod SameDecisions
 mod SameMisses
+mod KeptAnswers
 mod WorkedAnswers

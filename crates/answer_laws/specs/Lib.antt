@@ -1,3 +1,4 @@
 pub mod Named
 pub mod CompleteAnswers
 pub mod SingleAnswers
+pub mod KeptAnswers

@@ -1,11 +1,12 @@
 //! The laws. Each function does nothing: its contract is the law.
 
 ghost use Rattle.answer_laws.specs.CompleteAnswers as complete;
+ghost use Rattle.answer_laws.specs.KeptAnswers as kept;
 ghost use Rattle.answer_laws.specs.SingleAnswers as single;
 
 use farkas_check::certificates_are_told_apart;
 use region_split::{decisions_are_unique, decisions_tell};
-use verify_core::answers_keep_promises;
+use verify_core::{answers_keep_promises, proved_goals_are_accepted};
 
 /// A decision of a typed goal at which no cause is proves it exactly where it holds.
 pub fn decisions_are_complete()
@@ -44,4 +45,14 @@ pub fn verdicts_are_unique()
 {
     decisions_are_unique();
     certificates_are_told_apart();
+}
+
+/// The certificates that come with the answers on a file, checked, give each procedure that is proved, and each loop that is ranked, its
+/// verdict again, wherever the proved goals have trees of at most 1,000 levels.
+pub fn verdicts_are_kept()
+    ensures bounds { kept.VerdictsAreKept }
+    ensures rankings { kept.RanksAreKept }
+{
+    proved_goals_are_accepted();
+    tables_give_one_verdict();
 }

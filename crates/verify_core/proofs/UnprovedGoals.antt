@@ -1,5 +1,5 @@
 -- What decisions don't prove has no certificate among theirs, and is missed by them.
-use Rattle.std.proofs.Common.{◌≡◌, ◌∙◌, ◌<◌, ◌⊎◌, ℕ, refl, sym, ap, ap₂, subst, arith, append_assoc, true, List, [], ◌∷◌, ◌++◌, length, map, slice_index_or, Option, None, Some, inl, inr, ⊎_elim}
+use Rattle.std.proofs.Common.{◌≡◌, ◌∙◌, ◌<◌, ◌⊎◌, ℕ, refl, sym, ap, ap₂, subst, arith, append_assoc, true, List, [], ◌∷◌, ◌++◌, map, slice_index_or, Option, None, Some, inl, inr, ⊎_elim}
 use Rattle.std.specs.List.{AllZip, Contains}
 use Prim.Native.Nat.{zero, suc}
 use Rattle.cert_text.specs.Certificates.{IsGrowingAfter, certificates_of, precedes}
