@@ -1,7 +1,8 @@
 -- Worked searches, computed by the definitions: three payments of 1, and the geometric loop with a pre of 1/2.
-use Rattle.std.proofs.Common.{◌≡◌, ℕ, refl, Bool, true, false, List, [], ◌∷◌, Some, None, pos, map, arith}
-use Rattle.std.specs.Prelude.{ℤ, Option, option_map}
+use Rattle.std.proofs.Common.{◌≡◌, ◌∙◌, ℕ, refl, sym, ap, subst, Bool, true, false, List, [], ◌∷◌, Some, None, pos, map, arith}
+use Rattle.std.specs.Prelude.{ℤ, Option, is_some, option_map}
 use Rattle.heyvl_num.specs.Exact.{exact_sum, sum_fits, exact_product, product_fits, exact_order, order_fits}
+use Rattle.heyvl_num.specs.ExactValues.{exact_orderᵛ}
 use Rattle.heyvl_num.specs.Gcd.{gcd, gcd_steps}
 use Rattle.heyvl_num.specs.Rational.{ratio, zeroʳ, oneʳ, halfʳ, leqʳ, compareʳ, ◌+ʳ◌, ◌*ʳ◌, ◌-ʳ◌}
 use Rattle.heyvl_num.specs.Value.Value.{finite, infinite}
@@ -16,10 +17,11 @@ use Rattle.heyvl_acts.specs.Acts.{Act, Acts, Arms, Head, TypedProcedure, Variabl
 use Rattle.quant_algebra.specs.ExactMeaning.{exact_value}
 use Rattle.refute_runs.specs.RefutedAnswers.{PassesAt, StaysWithin, StopsAt}
 use Rattle.refute_runs.specs.RefutedAnswers.StopsAt.{by_number, by_step}
-use Rattle.refute_runs.specs.Shortages.IsShort.{no_pre}
+use Rattle.refute_runs.specs.Shortages.{IsShort}
+use Rattle.refute_runs.specs.Shortages.IsShort.{final_adding, no_order, no_pre, no_sum}
 use Rattle.refute_runs.specs.SumsAfter.{together, unrolled_in}
 use Rattle.run_unroller.specs.MergedLists.{merged_onto}
-use Rattle.run_unroller.specs.Unrolling.{unrolling_of}
+use Rattle.run_unroller.specs.Unrolling.{Unrolling, unrolling_of}
 use Rattle.run_unroller.specs.declared.answers.Unrolled.TheVariants as unrolled
 
 -- The numerator and the denominator of a value; 1 and 0 for infinity.
@@ -108,3 +110,64 @@ wide_pays = procedure 0 [] [] (number 1) (number 0) (Act.reward (number 1) place
 wide_step : StopsAt (unrolled_in wide_pays 0 [] []) (Some (whole 1)) 9 2 (unrolling_of (unrolled.Bits 2))
 unfolding merged_onto joined scaled halfʳ ratio gcd gcd_steps zeroʳ oneʳ zeroᵛ oneᵛ ◌+ʳ◌ ◌*ʳ◌ ◌-ʳ◌ ◌+ᵛ◌ ◌*ᵛ◌ infinite_times is_zeroʳ leqʳ leqᵛ compareʳ exact_sum sum_fits exact_product product_fits exact_order order_fits
 wide_step = by_step (whole 1) (omega arith) (omega arith) refl refl refl (whole 1, (refl, record { holds = refl }))
+
+-- ---- Each shortage, and runs that are never short
+
+-- A post that does not fit stops the final adding.
+abbrev wide_post : List TypedProcedure
+wide_post = procedure 0 [] [] (number 1) wide [] ∷ []
+
+wide_post_is_short : IsShort (unrolled_in wide_post 0 [] []) (Some (whole 1)) 0
+unfolding merged_onto joined scaled halfʳ ratio gcd gcd_steps zeroʳ oneʳ zeroᵛ oneᵛ ◌+ʳ◌ ◌*ʳ◌ ◌-ʳ◌ ◌+ᵛ◌ ◌*ᵛ◌ infinite_times is_zeroʳ leqʳ leqᵛ compareʳ exact_sum sum_fits exact_product product_fits exact_order order_fits
+wide_post_is_short = final_adding refl
+
+-- A pre that does not fit is short after any number of steps.
+wide_pre_is_short : IsShort (unrolled_in pays 0 [] []) (exact_value wide []) 2
+unfolding ratio gcd gcd_steps exact_sum sum_fits
+wide_pre_is_short = no_pre refl
+
+-- The reward 2^127 - 1 and the post 1 fit, and their sum does not.
+abbrev wide_sum : List TypedProcedure
+wide_sum = procedure 0 [] [] (number 1) (number 1) (Act.reward (number 170141183460469231731687303715884105727) place ∷ []) ∷ []
+
+wide_sum_is_short : IsShort (unrolled_in wide_sum 0 [] []) (Some (whole 1)) 1
+unfolding merged_onto joined scaled halfʳ ratio gcd gcd_steps zeroʳ oneʳ zeroᵛ oneᵛ ◌+ʳ◌ ◌*ʳ◌ ◌-ʳ◌ ◌+ᵛ◌ ◌*ᵛ◌ infinite_times is_zeroʳ leqʳ leqᵛ compareʳ exact_sum sum_fits exact_product product_fits exact_order order_fits
+wide_sum_is_short = no_sum _ refl refl
+
+-- The pre 2^126 and the post 1/4 fit, and the products by which they are compared do not.
+abbrev far_pre : List TypedProcedure
+far_pre = procedure 0 [] [] (number 85070591730234615865843651857942052864) (Form.number (finite (ratio (pos 1) 4))) [] ∷ []
+
+far_pre_is_short : IsShort (unrolled_in far_pre 0 [] []) (Some (whole 85070591730234615865843651857942052864)) 0
+unfolding merged_onto joined scaled halfʳ ratio gcd gcd_steps zeroʳ oneʳ zeroᵛ oneᵛ ◌+ʳ◌ ◌*ʳ◌ ◌-ʳ◌ ◌+ᵛ◌ ◌*ᵛ◌ infinite_times is_zeroʳ leqʳ leqᵛ compareʳ exact_sum sum_fits exact_product product_fits exact_order order_fits
+far_pre_is_short = no_order (finite (ratio (pos 1) 4)) (whole 85070591730234615865843651857942052864) refl refl refl
+
+present : {A : Type 0} (o : Option A) → is_some o ≡ true → o ≡ None → ⊥
+present None e n = cc
+present (Some x) e n = cc
+
+of_some : {A : Type 0} (x y : A) → Some x ≡ Some y → x ≡ y
+of_some x y e = cc
+
+-- After two payments, and with the pre 1, no number is missing.
+payments_are_not_short : IsShort (unrolled_in pays 0 [] []) (Some (whole 1)) 2 → ⊥
+unfolding merged_onto joined scaled halfʳ ratio gcd gcd_steps zeroʳ oneʳ zeroᵛ oneᵛ ◌+ʳ◌ ◌*ʳ◌ ◌-ʳ◌ ◌+ᵛ◌ ◌*ᵛ◌ infinite_times is_zeroʳ leqʳ leqᵛ compareʳ exact_sum sum_fits exact_product product_fits exact_order order_fits
+payments_are_not_short (final_adding e) = cc
+payments_are_not_short (no_pre e) = cc
+payments_are_not_short (no_sum t e n) = present (together (unrolled_in pays 0 [] [] 2)) refl (ap together e ∙ n)
+payments_are_not_short (no_order sum bound e p n) = present (exact_orderᵛ (whole 1) (whole 2)) refl (subst (λ v. exact_orderᵛ v (whole 2) ≡ None) (sym (of_some (whole 1) bound p)) (subst (λ v. exact_orderᵛ bound v ≡ None) (sym (of_some (whole 2) sum e)) n))
+
+-- So the search does not stop there, neither by the step nor by a number.
+payments_do_not_stop : (answer : Unrolling) → StopsAt (unrolled_in pays 0 [] []) (Some (whole 1)) 9 2 answer → ⊥
+unfolding merged_onto joined scaled halfʳ ratio gcd gcd_steps zeroʳ oneʳ zeroᵛ oneᵛ ◌+ʳ◌ ◌*ʳ◌ ◌-ʳ◌ ◌+ᵛ◌ ◌*ᵛ◌ infinite_times is_zeroʳ leqʳ leqᵛ compareʳ exact_sum sum_fits exact_product product_fits exact_order order_fits
+payments_do_not_stop answer (by_step bound one few names same given before) = names
+payments_do_not_stop answer (by_number few short same before) = payments_are_not_short short
+
+-- One payment does not pass the pre, and two do not stay within it.
+first_does_not_pass : (sum bound : Value) → PassesAt (unrolled_in pays 0 [] []) (Some (whole 1)) 9 1 sum bound → ⊥
+unfolding merged_onto joined scaled halfʳ ratio gcd gcd_steps zeroʳ oneʳ zeroᵛ oneᵛ ◌+ʳ◌ ◌*ʳ◌ ◌-ʳ◌ ◌+ᵛ◌ ◌*ᵛ◌ infinite_times is_zeroʳ leqʳ leqᵛ compareʳ exact_sum sum_fits exact_product product_fits exact_order order_fits
+first_does_not_pass sum bound h = let e = subst (λ v. leqᵛ (whole 1) v ≡ false) (sym (of_some (whole 1) bound h.given)) (subst (λ v. leqᵛ v bound ≡ false) (sym (of_some (whole 1) sum h.summed)) h.above.holds) in cc
+
+second_does_not_stay : (sum bound : Value) → StaysWithin (unrolled_in pays 0 [] []) (Some (whole 1)) 2 sum bound → ⊥
+unfolding merged_onto joined scaled halfʳ ratio gcd gcd_steps zeroʳ oneʳ zeroᵛ oneᵛ ◌+ʳ◌ ◌*ʳ◌ ◌-ʳ◌ ◌+ᵛ◌ ◌*ᵛ◌ infinite_times is_zeroʳ leqʳ leqᵛ compareʳ exact_sum sum_fits exact_product product_fits exact_order order_fits
+second_does_not_stay sum bound h = let e = subst (λ v. leqᵛ (whole 2) v ≡ true) (sym (of_some (whole 1) bound h.given)) (subst (λ v. leqᵛ v bound ≡ true) (sym (of_some (whole 2) sum h.summed)) h.within.holds) in cc
