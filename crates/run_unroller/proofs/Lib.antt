@@ -13,3 +13,4 @@ mod ScriptExamples
 mod SumsOfRuns
 mod UnrolledSums
 mod Examples
+mod CauseExamples
