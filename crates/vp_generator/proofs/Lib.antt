@@ -6,6 +6,7 @@ mod FailingGoals
 mod Growth
 mod PrenexedTypes
 mod Examples
+mod LimitExamples
 mod BuiltForms
 mod PrenexedPlain
 mod Weights
