@@ -1,6 +1,8 @@
 mod BlockSizes
 mod Depths
 mod Examples
+mod LimitExamples
+mod LawExamples
 mod FirstConfigs
 mod Moves
 mod Branches

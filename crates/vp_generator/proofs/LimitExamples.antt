@@ -1,6 +1,6 @@
 -- The limits of generated forms: acts whose form passes a limit, and small acts whose form passes none; and what the laws ask, at a
 -- fair coin.
-use Rattle.std.proofs.Common.{◌≡◌, ◌∙◌, ap, ◌≤◌, ◌+◌, ◌^◌, ℕ, suc, zero, refl, true, false, List, [], ◌∷◌, arith}
+use Rattle.std.proofs.Common.{◌≡◌, ◌∙◌, ap, ◌+◌, ◌^◌, ℕ, suc, zero, refl, true, false, List, [], ◌∷◌, arith}
 use Rattle.std.specs.Prelude.{Err, Some}
 use Rattle.std.proofs.Math.Nat.{pow-suc}
 use Rattle.heyvl_num.specs.Rational.{ratio, zeroʳ, oneʳ, halfʳ, leqʳ, ◌≤ʳ◌, ◌+ʳ◌}
