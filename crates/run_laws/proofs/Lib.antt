@@ -1,4 +1,5 @@
 pub mod TypedRuns
 pub mod Bare
 mod Examples
+mod LawExamples
 pub mod exported

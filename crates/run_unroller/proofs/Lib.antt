@@ -14,3 +14,4 @@ mod SumsOfRuns
 mod UnrolledSums
 mod Examples
 mod CauseExamples
+mod LawExamples
