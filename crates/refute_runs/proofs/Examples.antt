@@ -111,7 +111,7 @@ wide_step : StopsAt (unrolled_in wide_pays 0 [] []) (Some (whole 1)) 9 2 (unroll
 unfolding merged_onto joined scaled halfʳ ratio gcd gcd_steps zeroʳ oneʳ zeroᵛ oneᵛ ◌+ʳ◌ ◌*ʳ◌ ◌-ʳ◌ ◌+ᵛ◌ ◌*ᵛ◌ infinite_times is_zeroʳ leqʳ leqᵛ compareʳ exact_sum sum_fits exact_product product_fits exact_order order_fits
 wide_step = by_step (whole 1) (omega arith) (omega arith) refl refl refl (whole 1, (refl, record { holds = refl }))
 
--- ---- Each shortage, and runs that are never short
+-- ---- Each shortage, and runs that are not short
 
 -- A post that does not fit stops the final adding.
 abbrev wide_post : List TypedProcedure
@@ -157,17 +157,18 @@ payments_are_not_short (no_pre e) = cc
 payments_are_not_short (no_sum t e n) = present (together (unrolled_in pays 0 [] [] 2)) refl (ap together e ∙ n)
 payments_are_not_short (no_order sum bound e p n) = present (exact_orderᵛ (whole 1) (whole 2)) refl (subst (λ v. exact_orderᵛ v (whole 2) ≡ None) (sym (of_some (whole 1) bound p)) (subst (λ v. exact_orderᵛ bound v ≡ None) (sym (of_some (whole 2) sum e)) n))
 
--- So the search does not stop there, neither by the step nor by a number.
+-- The search does not stop there, neither by the step nor by a number.
 payments_do_not_stop : (answer : Unrolling) → StopsAt (unrolled_in pays 0 [] []) (Some (whole 1)) 9 2 answer → ⊥
 unfolding merged_onto joined scaled halfʳ ratio gcd gcd_steps zeroʳ oneʳ zeroᵛ oneᵛ ◌+ʳ◌ ◌*ʳ◌ ◌-ʳ◌ ◌+ᵛ◌ ◌*ᵛ◌ infinite_times is_zeroʳ leqʳ leqᵛ compareʳ exact_sum sum_fits exact_product product_fits exact_order order_fits
 payments_do_not_stop answer (by_step bound one few names same given before) = names
 payments_do_not_stop answer (by_number few short same before) = payments_are_not_short short
 
--- One payment does not pass the pre, and two do not stay within it.
+-- One payment does not pass the pre.
 first_does_not_pass : (sum bound : Value) → PassesAt (unrolled_in pays 0 [] []) (Some (whole 1)) 9 1 sum bound → ⊥
 unfolding merged_onto joined scaled halfʳ ratio gcd gcd_steps zeroʳ oneʳ zeroᵛ oneᵛ ◌+ʳ◌ ◌*ʳ◌ ◌-ʳ◌ ◌+ᵛ◌ ◌*ᵛ◌ infinite_times is_zeroʳ leqʳ leqᵛ compareʳ exact_sum sum_fits exact_product product_fits exact_order order_fits
 first_does_not_pass sum bound h = let e = subst (λ v. leqᵛ (whole 1) v ≡ false) (sym (of_some (whole 1) bound h.given)) (subst (λ v. leqᵛ v bound ≡ false) (sym (of_some (whole 1) sum h.summed)) h.above.holds) in cc
 
+-- Two payments do not stay within it.
 second_does_not_stay : (sum bound : Value) → StaysWithin (unrolled_in pays 0 [] []) (Some (whole 1)) 2 sum bound → ⊥
 unfolding merged_onto joined scaled halfʳ ratio gcd gcd_steps zeroʳ oneʳ zeroᵛ oneᵛ ◌+ʳ◌ ◌*ʳ◌ ◌-ʳ◌ ◌+ᵛ◌ ◌*ᵛ◌ infinite_times is_zeroʳ leqʳ leqᵛ compareʳ exact_sum sum_fits exact_product product_fits exact_order order_fits
 second_does_not_stay sum bound h = let e = subst (λ v. leqᵛ (whole 2) v ≡ true) (sym (of_some (whole 1) bound h.given)) (subst (λ v. leqᵛ v bound ≡ true) (sym (of_some (whole 2) sum h.summed)) h.within.holds) in cc

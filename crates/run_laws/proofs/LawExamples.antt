@@ -85,11 +85,11 @@ infinite_held = (refl, refl)
 abbrev unbounded : List TypedProcedure
 unbounded = coins (Form.number infinite)
 
--- `BeginningsFit` and `SumsGrow`: a file that satisfies the rules, and a typed state
+-- A file that satisfies the rules and a typed state are what `BeginningsFit` and `SumsGrow` ask.
 file_meets_the_rules : Each (MeetsRules unbounded) unbounded × IsState (coin (Form.number infinite)) start
 file_meets_the_rules = ((coin_meets (Form.number infinite) infinite_held (number_is_over infinite), tt), (refl, refl))
 
--- `StepsKeepTheRules` and `RuledStepsWeighOne`: a configuration that fits and has an item
+-- The first configuration fits and has an item, as `StepsKeepTheRules` and `RuledStepsWeighOne` ask.
 coin_fits : ConfigFits unbounded 0 (begin unbounded 0 start)
 coin_fits = record { here = refl; frames = tt; items = (((((record { no_input = omega arith; below = omega arith }), ((half_from_zero, (refl, refl)), ((half_from_zero, (refl, refl)), tt))), halves_weigh_one), tt), tt); state = (refl, refl) }
 
@@ -98,11 +98,11 @@ unfolding leqᵛ
 at_most_infinity (finite x) = record { holds = refl }
 at_most_infinity infinite = record { holds = refl }
 
--- `RulesDoNotRun`: a file that differs in no rule, and a bound of infinity
+-- Infinity bounds the coin, in a file that differs in no rule, as `RulesDoNotRun` asks.
 infinity_bounds : (bare_procedures unbounded ≡ bare_procedures unbounded) × Bound unbounded 0
 infinity_bounds = (refl, λ s typed n t. at_most_infinity _)
 
--- `ViolationsRefute`: after one step the coin is above a pre of 0
+-- After one step the coin is above a pre of 0, as `ViolationsRefute` asks.
 coin_passes_zero : ((coin (Form.number zeroᵛ)).co ≡ true) × (IsState (coin (Form.number zeroᵛ)) start × (value (Form.number zeroᵛ) (environment start) Choices.stop <ᵛ sum_of true (Form.iverson (Cond.flag 0)) (runs (coins (Form.number zeroᵛ)) 1 (begin (coins (Form.number zeroᵛ)) 0 start) Tree.leaf)))
 unfolding runs weighted_sum scaled halfʳ ratio gcd gcd_steps zeroʳ oneʳ zeroᵛ oneᵛ ◌+ʳ◌ ◌*ʳ◌ ◌+ᵛ◌ ◌*ᵛ◌ leqʳ leqᵛ
 coin_passes_zero = (refl, ((refl, refl), record { holds = refl }))

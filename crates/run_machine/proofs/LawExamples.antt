@@ -78,21 +78,22 @@ one_held = (refl, refl)
 abbrev file : List TypedProcedure
 file = coins (Form.number oneᵛ)
 
--- `StepsWeighOne`: a draw whose weights add up to 1
+-- The weights of the draw add up to 1, as `StepsWeighOne` asks.
 flip_weighs_one : ItemWeighsOne (Item.act flip)
 flip_weighs_one = halves_weigh_one
 
--- `IllTypedIsDefault`: a number is no Boolean
+-- A number is no Boolean, as `IllTypedIsDefault` asks.
 number_is_ill_typed : has Ty.Bool (Num halfʳ) ≡ false
 number_is_ill_typed = refl
 
--- `EndedStays`: a configuration without items
+-- A terminated configuration.
 abbrev over : Config
 over = record { procedure = 0; items = []; frames = []; state = start; reward = zeroᵛ; turns = λ n. 0 }
 
+-- It has no item, as `EndedStays` asks.
 nothing_is_left : over.items ≡ []
 nothing_is_left = refl
 
--- `StoredStepsAreMeant`: a file that satisfies the rules, and a configuration that satisfies the condition
+-- The file satisfies the rules and the first configuration the condition, as `StoredStepsAreMeant` asks.
 coin_is_stored : Each (MeetsRules file) file × IsConfig file (stored_begin file 0 start)
 coin_is_stored = ((coin_meets (Form.number oneᵛ) one_held (number_is_over oneᵛ), tt), record { running = 0; lists = (refl, (((refl, record { act = flip; named = refl; runs = (tt, tt) }), tt), (refl, refl))); turns = refl })

@@ -30,25 +30,25 @@ procedure n a = record nobody { locals = replicate n (record { name = []; ty = T
 
 -- ---- More than 512 values
 
--- It calls itself.
+-- A procedure that calls itself.
 abbrev calls_itself : ℕ → List TypedProcedure
 calls_itself n = procedure n (Act.call [] 0 [] place) ∷ []
 
--- It has called itself once, and is about to do so again.
+-- The procedure has called itself once, and is about to do so again.
 abbrev called_once : ℕ → Stored
 called_once n = record { procedure = 0; items = Do 0 0 ∷ Back 0 0 ∷ []; state = replicate n (Truth false); frames = ([], replicate n (Truth false)) ∷ []; reward = zeroᵛ; turns = []; made = 0 }
 
--- With 200 locals there would be 600 values.
+-- With 200 locals the call would make 600 values, and has no outcome.
 deep_call : (stored_reply (calls_itself 200) (called_once 200) Decision.none ≡ Reply.deep) × (bounded_step (calls_itself 200) (config_of (calls_itself 200) (called_once 200)) Decision.none ≡ Answer.deep)
 deep_call = (refl, refl)
 
--- With one local there are 3.
+-- With one local it makes 3 values, and has one.
 call_is_not_deep : (stored_reply (calls_itself 1) (called_once 1) Decision.none ≡ Reply.deep → ⊥) × (bounded_step (calls_itself 1) (config_of (calls_itself 1) (called_once 1)) Decision.none ≡ Answer.deep → ⊥)
 call_is_not_deep = ((λ e. cc), (λ e. cc))
 
 -- ---- A number that does not fit
 
--- It collects a reward.
+-- A procedure that collects a reward.
 abbrev collects : Form → List TypedProcedure
 collects f = procedure 0 (Act.reward f place) ∷ []
 
@@ -59,10 +59,12 @@ first ps = stored_begin ps 0 []
 abbrev wide : Form
 wide = Form.sum (number 170141183460469231731687303715884105727) (number 1)
 
+-- The step of a reward that does not fit has no outcome.
 wide_reward : (stored_reply (collects wide) (first (collects wide)) Decision.none ≡ Reply.bits) × (bounded_step (collects wide) (config_of (collects wide) (first (collects wide))) Decision.none ≡ Answer.bits)
 unfolding ratio gcd gcd_steps exact_sum sum_fits
 wide_reward = (refl, refl)
 
+-- The step of a reward of 1 has one.
 reward_is_not_wide : (stored_reply (collects (number 1)) (first (collects (number 1))) Decision.none ≡ Reply.bits → ⊥) × (bounded_step (collects (number 1)) (config_of (collects (number 1)) (first (collects (number 1)))) Decision.none ≡ Answer.bits → ⊥)
 unfolding ratio gcd gcd_steps exact_sum sum_fits zeroʳ zeroᵛ ◌+ʳ◌ ◌+ᵛ◌
 reward_is_not_wide = ((λ e. cc), (λ e. cc))

@@ -65,12 +65,12 @@ at_once p = unrolled (p ∷ []) 0 [] 0 (begun (stored_begin (p ∷ []) 0 []))
 abbrev calls_itself : ℕ → TypedProcedure
 calls_itself n = procedure n (number 0) (Act.call [] 0 [] place ∷ [])
 
--- The second call of 200 locals makes 600 values.
+-- With 200 locals the second call would make 600 values, and is stopped.
 second_call_is_deep : stop_of (calls_itself 200) 200 2 ≡ Some (Deep, 2)
 unfolding merged_onto joined scaled ratio gcd gcd_steps zeroʳ oneʳ zeroᵛ ◌*ʳ◌ leqʳ exact_product product_fits
 second_call_is_deep = refl
 
--- The second call of 2 locals makes 6 values.
+-- With 2 locals it makes 6 values, and is not.
 second_call_is_not_deep : stop_of (calls_itself 2) 2 2 ≡ None
 unfolding merged_onto joined scaled ratio gcd gcd_steps zeroʳ oneʳ zeroᵛ ◌*ʳ◌ leqʳ exact_product product_fits
 second_call_is_not_deep = refl
@@ -85,10 +85,12 @@ wide = Form.sum (number 170141183460469231731687303715884105727) (number 1)
 abbrev collects : Form → TypedProcedure
 collects f = procedure 0 (number 0) (Act.reward f place ∷ [])
 
+-- A reward that does not fit stops its step.
 wide_reward_stops : stop_of (collects wide) 0 1 ≡ Some (Bits, 1)
 unfolding merged_onto joined scaled ratio gcd gcd_steps zeroʳ oneʳ zeroᵛ ◌*ʳ◌ ◌+ʳ◌ ◌+ᵛ◌ exact_sum sum_fits exact_product product_fits
 wide_reward_stops = refl
 
+-- A reward of 1 does not.
 small_reward_does_not_stop : stop_of (collects (number 1)) 0 1 ≡ None
 unfolding merged_onto joined scaled ratio gcd gcd_steps zeroʳ oneʳ zeroᵛ ◌*ʳ◌ ◌+ʳ◌ ◌+ᵛ◌ exact_sum sum_fits exact_product product_fits
 small_reward_does_not_stop = refl
@@ -102,16 +104,17 @@ draws w v = procedure 2 (number 0) (draw 0 ∷ draw 1 ∷ [])
     draw : ℕ → Act
     draw x = Act.draw x ((w, truth true) ∷ (v, truth false) ∷ []) place
 
--- The weight 1/2^64 twice makes the denominator 2^128.
+-- The weight 1/2^64, taken twice, has the denominator 2^128, which stops the second draw.
 narrow_weights_stop : stop_of (draws (ratio (pos 1) 18446744073709551616) (ratio (pos 18446744073709551615) 18446744073709551616)) 2 2 ≡ Some (Bits, 2)
 unfolding merged_onto joined scaled ratio gcd gcd_steps zeroʳ oneʳ zeroᵛ ◌*ʳ◌ exact_product product_fits
 narrow_weights_stop = refl
 
+-- The weight 1/2 does not.
 even_weights_do_not_stop : stop_of (draws halfʳ halfʳ) 2 2 ≡ None
 unfolding merged_onto joined scaled halfʳ ratio gcd gcd_steps zeroʳ oneʳ zeroᵛ ◌*ʳ◌ exact_product product_fits
 even_weights_do_not_stop = refl
 
--- ---- Bits: the weights of runs that have come to the same configuration, together
+-- ---- Bits: the weights of merged runs, together
 
 -- A procedure that tosses one variable twice, with this probability.
 abbrev tosses : Rational → TypedProcedure
@@ -120,32 +123,35 @@ tosses w = procedure 1 (number 0) (toss ∷ toss ∷ [])
     toss : Act
     toss = Act.toss 0 (Form.number (finite w)) place
 
--- The weights of the two runs that end in true have the denominator (2^62 - 1)^2.
+-- The weights of the two runs that end in true have the denominator (2^62 - 1)^2: their sum stops the second toss.
 merged_weights_stop : stop_of (tosses (ratio (pos 1) 4611686018427387903)) 1 2 ≡ Some (Bits, 2)
 unfolding merged_onto joined scaled ratio gcd gcd_steps zeroʳ oneʳ zeroᵛ oneᵛ negʳ minᵛ leqʳ leqᵛ compareʳ ◌*ʳ◌ ◌+ʳ◌ ◌-ʳ◌ exact_sum sum_fits exact_difference difference_fits exact_product product_fits exact_order order_fits
 merged_weights_stop = refl
 
+-- The weights 1/4 and 1/4 do not.
 even_tosses_do_not_stop : stop_of (tosses halfʳ) 1 2 ≡ None
 unfolding merged_onto joined scaled halfʳ ratio gcd gcd_steps zeroʳ oneʳ zeroᵛ oneᵛ negʳ minᵛ leqʳ leqᵛ compareʳ ◌*ʳ◌ ◌+ʳ◌ ◌-ʳ◌ exact_sum sum_fits exact_difference difference_fits exact_product product_fits exact_order order_fits
 even_tosses_do_not_stop = refl
 
 -- ---- Bits: the final adding
 
+-- A post that does not fit stops the final adding.
 wide_post_stops : at_once (procedure 0 wide []) ≡ Unrolling.stopped Bits 1
 unfolding merged_onto joined scaled ratio gcd gcd_steps zeroʳ oneʳ zeroᵛ ◌*ʳ◌ ◌+ʳ◌ ◌*ᵛ◌ ◌+ᵛ◌ infinite_times is_zeroʳ exact_sum sum_fits exact_product product_fits
 wide_post_stops = refl
 
+-- A post of 1 does not.
 small_post_does_not_stop : (cause : Cause) (n : ℕ) → at_once (procedure 0 (number 1) []) ≡ Unrolling.stopped cause n → ⊥
 unfolding merged_onto joined scaled ratio gcd gcd_steps zeroʳ oneʳ zeroᵛ ◌*ʳ◌ ◌+ʳ◌ ◌*ᵛ◌ ◌+ᵛ◌ infinite_times is_zeroʳ exact_sum sum_fits exact_product product_fits
 small_post_does_not_stop cause n e = cc
 
 -- ---- Full: more than 65,536 runs
 
--- A run that has ended after n decisions.
+-- A terminated run, after n decisions.
 abbrev ended : ℕ → Stored
 ended n = record { procedure = 0; items = []; state = []; frames = []; reward = zeroᵛ; turns = []; made = n }
 
--- n runs of this weight, which have ended after k, k + 1 and more decisions.
+-- n terminated runs of weight w, after k, k + 1 and more decisions.
 listed : Rational → ℕ → ℕ → RunList
 listed w k zero = []
 listed w k (suc n) = (w, ended k) ∷ listed w (suc k) n
@@ -180,7 +186,7 @@ unfolding listed
 put_last w k zero m e = let is : m ≡ k = omega arith in ap (λ i. (w, ended i) ∷ []) is
 put_last w k (suc n) m e = otherwise (same_stored (ended m) (ended k)) _ _ _ (apart m k (λ d. absurd (omega arith))) (ap (λ es. (w, ended k) ∷ es) (put_last w (suc k) n m (omega arith)))
 
--- What a run of weight 1 meets that joins a list in which there is none like it.
+-- What stops a run of weight 1 that joins a list without an equal one.
 join_by : (es : RunList) (c : Stored) (o : Option Cause) → held same_stored c es ≡ None → put_cause (length es) (oneʳ *ʳ oneʳ) None ≡ o → join_cause es oneʳ (oneʳ, c) ≡ o
 unfolding exact_product product_fits oneʳ ratio gcd gcd_steps
 join_by es c o h p = subst (λ x. put_cause (length es) (oneʳ *ʳ oneʳ) x ≡ o) (sym h) p
@@ -219,10 +225,10 @@ unfolding listed
 overfill zero k h = last_is_full (listed (oneʳ *ʳ oneʳ) 0 k) (ended k) (join_by (listed (oneʳ *ʳ oneʳ) 0 k) (ended k) (Some Full) (none_held (oneʳ *ʳ oneʳ) 0 k k (omega arith)) (no_room_for (length (listed (oneʳ *ʳ oneʳ) 0 k)) (oneʳ *ʳ oneʳ) (omega (arith, listed_length (oneʳ *ʳ oneʳ) 0 k, h))))
 overfill (suc n) k h = one_more (suc n) k (Some Full) (omega arith) (overfill n (suc k) (omega arith))
 
--- 65,537 runs that have ended in different configurations are one too many for a list.
+-- 65,537 different terminated runs are one too many for a list.
 one_run_more_stops : step_cause [] [] (listed oneʳ 0 65537) ≡ Some Full
 one_run_more_stops = subst (λ es. first_cause es (all_brought [] [] (listed oneʳ 0 65537)) ≡ Some Full) (none_listed (oneʳ *ʳ oneʳ)) (overfill 65536 0 refl)
 
--- 65,536 are not.
+-- 65,536 of them are not too many.
 as_many_runs_do_not_stop : step_cause [] [] (listed oneʳ 0 65536) ≡ None
 as_many_runs_do_not_stop = subst (λ es. first_cause es (all_brought [] [] (listed oneʳ 0 65536)) ≡ None) (none_listed (oneʳ *ʳ oneʳ)) (fit 65536 0 (omega arith))

@@ -1,4 +1,4 @@
--- The limits of generated forms: acts whose form passes a limit, and small acts whose form passes none; and what the laws ask, at a
+-- The limits of generated forms: acts whose form exceeds a limit, and smaller acts whose form exceeds none; and what the laws ask, at a
 -- fair coin.
 use Rattle.std.proofs.Common.{◌≡◌, ◌∙◌, ap, ◌+◌, ◌^◌, ℕ, suc, zero, refl, true, false, List, [], ◌∷◌, arith}
 use Rattle.std.specs.Prelude.{Err, Some}
@@ -116,36 +116,42 @@ twice = Form.sum (Form.variable 0) (Form.variable 0)
 abbrev one_choice : Acts
 one_choice = Acts.next (Act.pick true Acts.done Acts.done nowhere) Acts.done
 
--- A choice fits the sum that the graph has.
+-- A choice fits the sum at the number 1, as a call in the graph asks.
 choice_follows : Follows one_choice pair 1
 unfolding trees_after
 choice_follows = record { form = twice; stands = record { tree = refl }; fit = record { types = λ x. Ty.UInt; fit = ((tt, tt), tt); formula = refl } }
 
--- Its form has 7 nodes: more than 6, and not more than 7.
+-- Its form has 7 nodes, which are more than 6.
 choice_is_too_large : IsAnswerIn 6 pair (vp one_choice twice) (Err Nodes) pair
 choice_is_too_large = (refl, omega arith)
 
+-- They are not more than 7.
 choice_is_not_too_large : IsStopAt 7 (vp one_choice twice) Nodes → ⊥
 choice_is_not_too_large h = absurd (omega arith)
 
--- The depth is limited by 1,000 alone.
+-- The form of 1,000 rewards is too deep in a graph too.
 rewards_are_too_deep_in_a_graph : IsStopAt 6 (vp (rewards 1000) zero_form) Depth
 rewards_are_too_deep_in_a_graph = omega (arith, rewards_depth 1000)
 
+-- The form of a choice is not.
 choice_is_not_too_deep : IsStopAt 6 (vp one_choice twice) Depth → ⊥
 choice_is_not_too_deep h = absurd (omega arith)
 
 -- ---- The limits of a goal's found form
 
+-- A goal whose found form has the depth 1,001 is too deep.
 goal_is_too_deep : (g : Goal) → IsMadeWithin (vp (rewards 1000) zero_form) g made.Depth
 goal_is_too_deep g = omega (arith, rewards_depth 1000)
 
+-- A goal that finds a sum of two variables is not.
 goal_is_not_too_deep : (g : Goal) → IsMadeWithin twice g made.Depth → ⊥
 goal_is_not_too_deep g h = absurd (omega arith)
 
+-- A goal whose found form has 262,143 nodes is too large.
 goal_is_too_large : (g : Goal) → IsMadeWithin (vp (choices 17) zero_form) g made.Nodes
 goal_is_too_large g = omega (arith, choices_nodes 17)
 
+-- A goal that finds a sum of two variables is not.
 goal_is_not_too_large : (g : Goal) → IsMadeWithin twice g made.Nodes → ⊥
 goal_is_not_too_large g h = absurd (omega arith)
 
@@ -161,15 +167,15 @@ half_from_zero : zeroʳ ≤ʳ halfʳ
 unfolding halfʳ zeroʳ ratio leqʳ
 half_from_zero = record { holds = refl }
 
--- `GeneratedFormMeansActs` and `GeneratedFormIsFormula`
+-- The acts are well typed and the post is a formula, as `GeneratedFormMeansActs` and `GeneratedFormIsFormula` ask.
 guess_fits : ActsFit all_flags guess × IsFormula all_flags same_values
 guess_fits = ((((half_from_zero, (refl, refl)), ((half_from_zero, (refl, refl)), tt)), (refl, tt)), refl)
 
--- `GeneratedFormIsOver` and `GeneratedFormIsNamed`
+-- They read and bind the first two variables alone, as `GeneratedFormIsOver` and `GeneratedFormIsNamed` ask.
 guess_is_over : ActsAreOver 2 guess × (IsOver 2 same_values × (AnysAreBelow 2 guess × AreNamed 2 (binders same_values)))
 guess_is_over = ((((λ y e. absurd (cc)), ((λ y e. absurd (cc)), tt)), (tt, tt)), ((λ y e. grind arith), ((tt, (omega arith, tt)), tt)))
 
--- `GeneratedFormIsDirected`
+-- They choose upward, as `GeneratedFormIsDirected` asks.
 guess_is_directed : Each (ChoosesToward true) (in_order guess) × (NothingBindsBehind true (has_binder same_values) (in_order guess) × (is_directed true same_values ≡ true))
 guess_is_directed = ((tt, (refl, tt)), (((λ e. absurd (cc)), ((λ e. absurd (cc)), tt)), refl))
 
@@ -183,7 +189,7 @@ one_held = (refl, refl)
 halves_weigh_one : (t u : Term) → total_weight ((halfʳ, t) ∷ (halfʳ, u) ∷ []) ≡ oneʳ
 halves_weigh_one t u = total_weight-cons halfʳ t _ ∙ (ap (λ w. halfʳ +ʳ w) (total_weight-cons halfʳ u [] ∙ (ap (λ w. halfʳ +ʳ w) (total_weight-empty Term) ∙ +ʳ-zero halfʳ)) ∙ halves)
 
--- `FormOfProcedureIsDirected`
+-- A procedure with this body satisfies the static rules, as `FormOfProcedureIsDirected` asks.
 guessing_meets_the_rules : MeetsRules (guessing ∷ []) guessing × ActsFit (types_of guessing) guess
 guessing_meets_the_rules = (
   record {
@@ -216,16 +222,17 @@ largest = Form.bind true 0 0 Ty.Bool (Form.iverson (Cond.flag 0))
 abbrev all_true : Env
 all_true x = Truth true
 
--- `ChoicesAreValues`, `ValuesAreChoices` and `PrenexedFormIsFormula`
+-- The variable behind the own one has the chosen value and its type, as `ChoicesAreValues`, `ValuesAreChoices` and
+-- `PrenexedFormIsFormula` ask.
 largest_is_chosen : IsFrom 1 (chosen largest (Choices.choose (Truth true) Choices.stop Choices.stop)) all_true × (TypedFrom 1 (binders largest) all_true × (TypesFrom 1 (binders largest) all_flags × IsFormula all_flags largest))
 largest_is_chosen = ((refl, tt), ((refl, tt), ((refl, tt), refl)))
 
--- `PrenexedGoalsSpeakOfChoices` and `PrenexedGoalsAreGoals`
+-- 0 and the largest value are formulas over one variable, as `PrenexedGoalsSpeakOfChoices` and `PrenexedGoalsAreGoals` ask.
 zero_and_largest_make_a_goal : IsOver 1 zero_form × (IsOver 1 largest × (IsFormula (types_in (Ty.Bool ∷ [])) zero_form × (IsFormula (types_in (Ty.Bool ∷ [])) largest × (has_binder zero_form ≡ false))))
 unfolding zeroᵛ zeroʳ ratio leqʳ
 zero_and_largest_make_a_goal = ((λ y e. absurd (cc)), ((λ y e. grind arith), (refl, (refl, refl))))
 
--- `PrenexedGoalsFailByChoices`: 0 is not at least the value 1 for true.
+-- In a state of two true values 0 is not at least the largest value, as `PrenexedGoalsFailByChoices` asks.
 zero_is_below_largest : IsTyped (Ty.Bool ∷ Ty.Bool ∷ []) (Truth true ∷ Truth true ∷ []) × (HoldsIn (prenexed_goal true (Ty.Bool ∷ []) ((1 ∷ []) ∷ (2 ∷ []) ∷ []) zero_form largest) (environment (Truth true ∷ Truth true ∷ [])) → ⊥)
 unfolding zeroᵛ oneᵛ zeroʳ oneʳ ratio leqᵛ leqʳ
 zero_is_below_largest = ((refl, (refl, refl)), λ h. let e = h.holds in cc)
