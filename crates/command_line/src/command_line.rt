@@ -1,10 +1,10 @@
 //! The commands and their words.
 
-ghost use Rattle.clap.specs.Words.{app_of, first_of, found_of, rule_of, rows_of, subcommand_rows_of};
+ghost use Rattle.clap.specs.Words.{app_of, first_of, found_of, rule_of, rows_of, subcommand_rows_of, with_subcommand};
 ghost use Rattle.clap.specs.declared.builder.command.Command.TheViews.{out-Command};
 ghost use Rattle.std.specs.List.{list_all};
 ghost use Rattle.std.specs.Prelude.{IfErr, IfOk, List, MatchResult, Some, false, map, string_bytes, true, ◌≡◌, ℕ};
-ghost use Rattle.command_line.specs.internal.CommandLine.{argument, command, tool};
+ghost use Rattle.command_line.specs.internal.CommandLine.{argument, bare_tool, command, tool};
 ghost use Rattle.command_line.specs.internal.Met.{IsFound, IsGenFound, IsGenRead, IsMemory, IsMet};
 ghost use Rattle.command_words.specs.Requests.{request_of};
 ghost use Rattle.command_words.specs.Words.{AskFor, IsSettingsStop, is_argument};
@@ -59,25 +59,43 @@ fn command<'a>(
     Ok(made)
 }
 
-/// The tool with its commands.
-fn tool<'a>(alloc: Global) -> Result<Command<'a>, AllocError>
-    ensures { IfOk result (λ command. app_of command ≡ tool) }
+/// The tool before it has commands.
+fn bare_tool<'a>(alloc: Global) -> Command<'a>
+    ensures { app_of result ≡ bare_tool }
 {
     Command::new(alloc, "caesar")
         .no_binary_name(true)
         .disable_help_flag(true)
         .disable_help_subcommand(true)
         .subcommand_required(true)
-        .subcommand(command(alloc, "verify", &["FILE"])?)?
-        .subcommand(command(alloc, "print", &["FILE"])?)?
-        .subcommand(command(alloc, "run", &["FILE", "PROC", "SCRIPT"])?)?
-        .subcommand(command(alloc, "certify", &["FILE"])?)?
-        .subcommand(command(alloc, "check", &["FILE", "CERT"])?)?
-        .subcommand(command(alloc, "gen", &["N"])?)?
-        .subcommand(command(alloc, "pgcl", &["FILE"])?)?
-        .subcommand(command(alloc, "omega", &["FILE", "PROC", "NAME"])?)?
-        .subcommand(command(alloc, "remainder", &["FILE", "PROC", "NAME"])?)?
-        .subcommand(command(alloc, "refute", &["FILE", "PROC", "SCRIPT"])?)
+}
+
+/// The tool with one more command, which has this name and arguments of these names.
+fn with_command<'a>(
+    alloc: Global,
+    tool: Command<'a>,
+    name: &'a str,
+    arguments: &[&'a str],
+) -> Result<Command<'a>, AllocError>
+    ensures { IfOk result (λ made. app_of made ≡ with_subcommand (app_of tool.entry) (command name.entry.now (map (λ argument. argument.now) arguments.now)).top) }
+{
+    tool.subcommand(command(alloc, name, arguments)?)
+}
+
+/// The tool with its commands.
+fn tool<'a>(alloc: Global) -> Result<Command<'a>, AllocError>
+    ensures { IfOk result (λ command. app_of command ≡ tool) }
+{
+    let tool = with_command(alloc, bare_tool(alloc), "verify", &["FILE"])?;
+    let tool = with_command(alloc, tool, "print", &["FILE"])?;
+    let tool = with_command(alloc, tool, "run", &["FILE", "PROC", "SCRIPT"])?;
+    let tool = with_command(alloc, tool, "certify", &["FILE"])?;
+    let tool = with_command(alloc, tool, "check", &["FILE", "CERT"])?;
+    let tool = with_command(alloc, tool, "gen", &["N"])?;
+    let tool = with_command(alloc, tool, "pgcl", &["FILE"])?;
+    let tool = with_command(alloc, tool, "omega", &["FILE", "PROC", "NAME"])?;
+    let tool = with_command(alloc, tool, "remainder", &["FILE", "PROC", "NAME"])?;
+    with_command(alloc, tool, "refute", &["FILE", "PROC", "SCRIPT"])
 }
 
 /// What `clap` makes of words that may all be arguments.
