@@ -42,10 +42,11 @@ fn mixed(
     ensures { IfOk result (λ made. map statement made.items ≡ Statement.var (pick_name number) TypeName.Bool (Some (RightSide.flip (expression probability.now))) span
         ∷ Statement.branch (arm (Expression.name (pick_name number) span) (block left.items)) (block right.items) span ∷ []) }
 {
-    let toss = toss(alloc, number, probability, span)?;
+    let mut made = Vec::with_capacity(alloc, 2)?;
+    made.push(toss(alloc, number, probability, span)?)?;
     let guard = picked(alloc, number, span)?;
-    let chosen = branch(alloc, guard, left, right, span)?;
-    Ok(vec![in alloc; toss, chosen]?)
+    made.push(branch(alloc, guard, left, right, span)?)?;
+    Ok(made)
 }
 
 /// The statements of a command. Its first probabilistic choice has the number `next`.
