@@ -4,7 +4,7 @@ use Rattle.heyvl_acts.specs.Acts.{Act, Acts, Arms}
 use Rattle.heyvl_acts.specs.Visible.{among}
 
 abbrev mutual
-  -- Whether the act gives the variable a value: an assignment, a draw, a havoc or a call.
+  -- Whether the act gives the variable a value: an assignment, a draw, a toss, a havoc or a call.
   pub is_target_of_act : ℕ → Act → Bool
   is_target_of_act x (Act.set y t span) = y == x
   is_target_of_act x (Act.draw y ps span) = y == x

@@ -3,7 +3,7 @@ use Rattle.std.proofs.Common.{◌≡◌, refl, ℕ, Bool, true, false, ◌==◌,
 use Rattle.std.specs.Prelude.{pos, Some, None}
 use Rattle.std.proofs.lemmas.Bool.{eqb-true, or_cases, false≢true}
 use Rattle.heyvl_num.specs.Rational.{ratio}
-use Rattle.heyvl_num.specs.Value.{oneᵛ}
+use Rattle.heyvl_num.specs.Value.{oneᵛ, zeroᵛ}
 use Rattle.heyvl_places.specs.declared.spans.Span.{Span}
 use Rattle.heyvl_places.specs.declared.checks.CheckKind.{CheckKind}
 use Rattle.heylo_formula.specs.Formula.{Form, Cond, Term}
@@ -37,6 +37,10 @@ each_kind = Acts.next (set 1) (Acts.next (Act.draw 2 ((ratio (pos 1) 1, Term.num
 
 a_target_of_each_kind : modified head.scope each_kind ≡ 1 ∷ 2 ∷ 3 ∷ 4 ∷ []
 a_target_of_each_kind = refl
+
+-- A toss gives its target a value, and no variable of its probability.
+a_target_of_a_toss : modified head.scope (only (Act.toss 3 (Form.select (Cond.flag 2) (Form.number oneᵛ) (Form.number zeroᵛ)) nowhere)) ≡ 3 ∷ []
+a_target_of_a_toss = refl
 
 -- A target in a branch, in either side of a choice and in a loop inside counts.
 abbrev inside_others : Acts

@@ -16,7 +16,7 @@ PartsAreOver n [] = Unit {0}
 PartsAreOver n (p ∷ ps) = TermIsOver n p.1 × PartsAreOver n ps
 
 abbrev mutual
-  -- The act reads and writes variables below n alone.
+  -- The act reads variables below n alone. Its targets may be any, and so may loops and calls, from which nothing is generated.
   pub ActIsOver : ℕ → Act → Type 0
   ActIsOver n (Act.set x t span) = TermIsOver n t
   ActIsOver n (Act.draw x ps span) = PartsAreOver n ps
@@ -30,12 +30,12 @@ abbrev mutual
   ActIsOver n (Act.loop h b) = Unit {0}
   ActIsOver n (Act.call xs p es span) = Unit {0}
 
-  -- The acts read and write variables below n alone.
+  -- The acts read variables below n alone.
   pub ActsAreOver : ℕ → Acts → Type 0
   ActsAreOver n Acts.done = Unit {0}
   ActsAreOver n (Acts.next a rest) = ActIsOver n a × ActsAreOver n rest
 
-  -- The arms read and write variables below n alone.
+  -- The arms read variables below n alone.
   pub ArmsAreOver : ℕ → Arms → Type 0
   ArmsAreOver n Arms.no_arm = Unit {0}
   ArmsAreOver n (Arms.arm g b more) = IsOverIn n g × (ActsAreOver n b × ArmsAreOver n more)
