@@ -26,10 +26,11 @@ class Refusal(Exception):
 class Arguments(argparse.ArgumentParser):
     """The arguments of a tool, whose help is the text of its module."""
 
-    def __init__(self, name, text):
+    def __init__(self, name, text, has_program=True):
         layout = argparse.RawDescriptionHelpFormatter
         super().__init__(prog=name, description=text, formatter_class=layout)
-        self.add_argument("--caesar", metavar="PROGRAM", help=HELP)
+        if has_program:
+            self.add_argument("--caesar", metavar="PROGRAM", help=HELP)
 
     def error(self, message):
         raise Refusal(f"{self.prog}: {message}; see {self.prog} --help", 4)
