@@ -1,5 +1,5 @@
 -- The walks of two goals without questions, worked out by hand: one holds plainly, the other fails.
-use Rattle.std.proofs.Common.{◌≡◌, [], ◌∷◌, refl, sym, ◌∙◌, arith, true}
+use Rattle.std.proofs.Common.{◌≡◌, ℕ, ◌<◌, [], ◌∷◌, refl, sym, ◌∙◌, arith, true, ◌==◌}
 use Rattle.std.specs.Prelude.{negsuc, Some, None}
 use Rattle.std.proofs.lemmas.List.Elements.{All-nil, All-cons}
 use Rattle.heyvl_num.specs.Gcd.{gcd, gcd_steps}
@@ -9,6 +9,7 @@ use Rattle.heyvl_num.specs.Value.{is_zeroʳ}
 use Rattle.heyvl_num.specs.Value.Value.{finite, infinite}
 use Rattle.heylo_formula.specs.Formula.{Form}
 use Rattle.heylo_formula.specs.Goals.{Goal}
+use Rattle.heylo_formula.specs.TypedGoals.{HasItsVariables, IsTypedGoal}
 use Rattle.heylo_formula.specs.declared.types.Ty.{Ty}
 use Rattle.linear_values.specs.Lin.{variable, plus, minus, scaled, is_sized}
 use Rattle.linear_rows.specs.Numbers.{minus_oneʳ, fits}
@@ -23,19 +24,25 @@ use Rattle.linear_rows.specs.VariableOrder.{order_of}
 use Rattle.linear_rows.specs.GreedyPoint.{Chooses}
 use Rattle.linear_form.specs.Cells.{IsKeptPath, IsFront, IsFalseCell}
 use Rattle.goal_answers.specs.Trees.{Tree, depth}
+use Rattle.goal_answers.specs.declared.decisions.Decision.TheVariants.{Proved}
+use Rattle.goal_answers.specs.declared.trees.Tree as T
+use Rattle.linear_form.specs.Nonlinear.{nonlinear_product}
+use Rattle.region_split.proofs.Leaves.{plain_tree}
 use Rattle.region_split.specs.Walk.{AreCells, AreBefore, IsReached, IsSettled}
 use Rattle.region_split.specs.WalkTree.{IsWalkTree}
+use Rattle.region_split.specs.PathPoints.{IsPointOf}
 use Rattle.region_split.specs.Pieces.{EndsOf, HasFirstPoint, IsFalse}
-use Rattle.region_split.specs.Decisions.{IsFalsified}
+use Rattle.region_split.specs.DecisionLaws.{IsOfLimits}
+use Rattle.region_split.specs.Decisions.{IsDecision, IsFalsified}
 
 -- infinity is at least x
-abbrev plain_goal : Goal
+abbrev pub plain_goal : Goal
 plain_goal = record { upper = true; stated = Form.number infinite; found = Form.variable 0; types = Ty.UInt ∷ []; names = []; own = 0 }
 
 plain_kept : IsKeptPath plain_goal []
 plain_kept = record { rows = []; are_rows = refl; solvable = record { at_values = λ x. zeroʳ; meets = All-nil _ } }
 
-holds_plainly : IsPlainAt plain_goal []
+pub holds_plainly : IsPlainAt plain_goal []
 holds_plainly = record { ends = (None, Some (variable 0)); at_end = refl; plain = refl }
 
 one_leaf : IsWalkTree plain_goal [] Tree.plain × (depth Tree.plain ≡ 1)
@@ -47,21 +54,35 @@ one_cell = AreCells.end [] (None, Some (variable 0)) plain_kept refl (IsSettled.
 reached_first : IsReached plain_goal [] []
 reached_first = record { are_before = AreBefore.start; few = omega arith }
 
+-- The walk proves it, and this decision meets the premises of the laws of decisions.
+plain_is_proved : IsDecision plain_goal (Proved (Some T.Plain)) × (IsOfLimits (Proved (Some T.Plain)) → ⊥)
+plain_is_proved = ((refl, record { cells = [] ∷ []; walked = record { are_cells = one_cell; few = omega arith }; tree = Tree.plain; is_tree = one_leaf.0; is_given = (plain_tree, omega arith) }), λ n. n)
+
+plain_is_typed : IsTypedGoal plain_goal × HasItsVariables plain_goal
+plain_is_typed = (record { stated = refl; found = refl }, record { stated = λ x e. absurd (cc); found = λ x e. first x e })
+  where
+    first : (x : ℕ) → (x == 0) ≡ true → x < 1
+    first x e = grind arith
+
+-- Its tree meets the premises of the laws of trees.
+plain_is_certified : (nonlinear_product plain_goal ≡ None) × IsWalkTree plain_goal [] Tree.plain
+plain_is_certified = (refl, one_leaf.0)
+
 -- 0 is at least 1
-abbrev false_goal : Goal
+abbrev pub false_goal : Goal
 false_goal = record { upper = true; stated = Form.number (finite zeroʳ); found = Form.number (finite oneʳ); types = []; names = []; own = 0 }
 
-below_zero : Row
+unfoldable pub below_zero : Row
 below_zero = record { terms = []; rest = negsuc 0; strict = true }
 
 false_kept : IsKeptPath false_goal []
 false_kept = record { rows = []; are_rows = refl; solvable = record { at_values = λ x. zeroʳ; meets = All-nil _ } }
 
-false_end : end_at false_goal [] ≡ done (zero, one)
+pub false_end : end_at false_goal [] ≡ done (zero, one)
 unfolding is_sized fits ratio gcd gcd_steps zeroʳ oneʳ
 false_end = refl
 
-denied_row : rows_of false_goal [] true ≡ Some (below_zero ∷ [])
+pub denied_row : rows_of false_goal [] true ≡ Some (below_zero ∷ [])
 unfolding below_zero minus plus scaled minus_oneʳ is_sized fits is_zeroʳ tightened ratio gcd gcd_steps zeroʳ oneʳ ◌+ʳ◌ ◌*ʳ◌
 denied_row = refl
 
@@ -78,17 +99,20 @@ not_plain p = go p.ends (sym false_end ∙ p.at_end) p.plain
     go : (e : Ends) → done (zero, one) ≡ done e → denial true e ≡ None → ⊥
     go e h k = let i : (zero, one) ≡ e = cc in let j = rw (← i) at k in absurd (cc)
 
-false_cell : IsFalseCell false_goal []
+pub false_cell : IsFalseCell false_goal []
 false_cell = record { cell = record { front = IsFront.start; kept = false_kept; ends = (zero, one); at_end = false_end }; not_plain = not_plain; rows = below_zero ∷ []; are_rows = denied_row; solvable = denied_solvable }
 
 false_piece : IsFalse false_goal []
 false_piece = record { not_plain = not_plain; rows = below_zero ∷ []; are_rows = denied_row; solvable = denied_solvable }
 
--- the state without variables falsifies it
-falsified : IsFalsified false_goal []
+pub false_point : IsPointOf false_goal [] []
 unfolding order_of
+false_point = record { rows = below_zero ∷ []; are_rows = denied_row; values = []; greedy = record { solvable = denied_solvable; chosen = []; choice = Chooses.ends []; state = record { each = refl; values = λ x l. absurd (omega (arith, l)) } }; truths = refl }
+
+-- the state without variables falsifies it
+pub falsified : IsFalsified false_goal []
 falsified = record {
   cells = [] ∷ [];
   walked = record { are_cells = AreCells.end [] (zero, one) false_kept false_end (IsSettled.falsified false_cell); few = omega arith };
-  first = record { before = []; cell = []; after = []; whole = refl; ends = []; are_ends = EndsOf.start; broken = All-nil _; is_cell = false_cell.cell; gives = HasFirstPoint.whole 0 [] [] false_piece (record { rows = below_zero ∷ []; are_rows = denied_row; values = []; greedy = record { solvable = denied_solvable; chosen = []; choice = Chooses.ends []; state = record { each = refl; values = λ x l. absurd (omega (arith, l)) } }; truths = refl }) };
+  first = record { before = []; cell = []; after = []; whole = refl; ends = []; are_ends = EndsOf.start; broken = All-nil _; is_cell = false_cell.cell; gives = HasFirstPoint.whole 0 [] [] false_piece false_point };
 }

@@ -43,7 +43,7 @@ same_split a b t u e f = split_tree a b ∙ ap (λ x. Tree.split (tree_of x) (tr
 farkas_tree : (ms : Vec (ℕ × ℕ) Global) → tree_of (T.Farkas ms) ≡ Tree.farkas ms.items
 farkas_tree ms = ap tree_of (sym (T.TheVariants.rolls-Farkas ms)) ∙ fold-roll-Tree Tree tree_layer (Tree-F.Farkas ms) ∙ refl
 
-plain_tree : tree_of T.Plain ≡ Tree.plain
+pub plain_tree : tree_of T.Plain ≡ Tree.plain
 plain_tree = ap tree_of (sym T.TheVariants.rolls-Plain) ∙ fold-roll-Tree Tree tree_layer Tree-F.Plain ∙ refl
 
 whole_layer : (x : ℕ) (m : ℤ) (a b : Box T.Tree Global) → tree_of (T.Whole x m a b) ≡ Tree.whole x m (tree_of a.value) (tree_of b.value)

@@ -23,4 +23,7 @@ mod ProvedWalks
 mod PieceSteps
 mod UniqueDecisions
 mod Examples
+mod WithinLimits
+mod CauseFree
+mod CauseExamples
 pub mod Meaning

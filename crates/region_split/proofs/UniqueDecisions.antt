@@ -19,6 +19,7 @@ use Rattle.goal_answers.specs.declared.causes.Cause.TheVariants.{Depth, Nodes, N
 use Rattle.goal_answers.specs.Trees.{Tree, tree_of}
 use Rattle.goal_answers.specs.declared.trees.Tree as T
 use Rattle.region_split.specs.Walk.{AreCells, IsWalked}
+use Rattle.region_split.specs.WalkTree.{IsWalkTree}
 use Rattle.region_split.specs.Decisions.{HasCells, IsFirstPoint, IsFirstBreak, IsFalsified, IsUndecided, IsGiven, IsProved, IsCause, IsDecision}
 use Rattle.region_split.specs.PathPoints.{Breaks, IsBreakOf}
 use Rattle.region_split.specs.Pieces.{AreEnds, EndsOf, HasFirstPoint}
@@ -134,8 +135,8 @@ same_cells g cs ds a b = cells_unique g [] cs ds a.are_cells b.are_cells
 proved_and_point : (g : Goal) (t : Option T.Tree) (p : List Val) → IsProved g t → IsFalsified g p → ⊥
 proved_and_point g t p a b = point_or_holds g b.first.cell p b.first.gives (at_place (HoldsAt g) b.first.before b.first.cell b.first.after (subst (All (HoldsAt g)) (sym b.first.whole) (all_hold g [] a.tree b.cells a.is_tree b.walked.are_cells)))
 
-proved_and_break : (g : Goal) (t : Option T.Tree) (c : Broken) → IsProved g t → IsUndecided g c → ⊥
-proved_and_break g t c a b = let e = all_ends_unique g b.cells [] (b.first.path ∷ b.first.after) (no_ends g b.cells (all_hold g [] a.tree b.cells a.is_tree b.walked.are_cells)) b.first.are_ends in absurd (cc)
+pub tree_or_break : (g : Goal) (t : Tree) (c : Broken) → IsWalkTree g [] t → IsUndecided g c → ⊥
+tree_or_break g t c a b = let e = all_ends_unique g b.cells [] (b.first.path ∷ b.first.after) (no_ends g b.cells (all_hold g [] t b.cells a b.walked.are_cells)) b.first.are_ends in absurd (cc)
 
 cell_count : (g : Goal) (ps : List Taken) (cells : List (List Taken)) → IsCell g ps → AreCells g ps cells → length cells ≡ 1
 cell_count g _ _ c (AreCells.dropped ps d s) = absurd (kept_or_dropped g ps c.kept d)
@@ -143,7 +144,7 @@ cell_count g _ _ c (AreCells.end ps e k h s) = refl
 cell_count g _ _ c (AreCells.question ps q cs ds h a b) = absurd (end_or_question g ps c.ends q c.at_end h.asks)
 
 -- where one cell more is reached, not all are walked
-cells_or_walked : (g : Goal) (all : List (List Taken)) → HasCells g 4097 → IsWalked g all → ⊥
+pub cells_or_walked : (g : Goal) (all : List (List Taken)) → HasCells g 4097 → IsWalked g all → ⊥
 cells_or_walked g all h w =
     let l = located g h.path h.before all h.are_before w.are_cells in
     let n = cell_count g h.path l.here h.cell l.are_cells in
@@ -153,7 +154,7 @@ cells_or_walked g all h w =
     let f = w.few in
     absurd (omega (arith, n, a, b, c, f))
 
-cells_counted : (g : Goal) (n : ℕ) → (n ≡ 4097) × HasCells g n → HasCells g 4097
+pub cells_counted : (g : Goal) (n : ℕ) → (n ≡ 4097) × HasCells g n → HasCells g 4097
 cells_counted g n h = subst (HasCells g) h.0 h.1
 
 given_alike : (t u : Tree) (s r : Option T.Tree) → AreAlike t u → IsGiven t s → IsGiven u r → GiveAlike s r
@@ -198,9 +199,9 @@ proved_or_cause g t (Rows a b) h k n = n tt
 proved_or_cause g t Bits h k n = n tt
 proved_or_cause g t (Nonlinear r) h k n = let e = sym k ∙ h.0 in absurd (cc)
 proved_or_cause g t (Cells a) h k n = cells_or_walked g h.1.cells (cells_counted g a k.1) h.1.walked
-proved_or_cause g t (Fraction b) h k n = proved_and_break g t b h.1 k.1
+proved_or_cause g t (Fraction b) h k n = tree_or_break g h.1.tree b h.1.is_tree k.1
 
-falsified_or_cause : (g : Goal) (p : List Val) (c : Cause) → (nonlinear_product g ≡ None) × IsFalsified g p → IsCause g c → (IsOfLimits (Unknown c) → ⊥) → ⊥
+pub falsified_or_cause : (g : Goal) (p : List Val) (c : Cause) → (nonlinear_product g ≡ None) × IsFalsified g p → IsCause g c → (IsOfLimits (Unknown c) → ⊥) → ⊥
 falsified_or_cause g p Depth h k n = absurd k
 falsified_or_cause g p Nodes h k n = absurd k
 falsified_or_cause g p (Rows a b) h k n = n tt
