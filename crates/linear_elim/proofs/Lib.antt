@@ -23,6 +23,7 @@ pub mod NarrowShares
 pub mod Counts
 pub mod OrderedRows
 pub mod EndAnswers
+mod LimitExamples
 pub mod Projections
 pub mod Completions
 pub mod EndPlaces
