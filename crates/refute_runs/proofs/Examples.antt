@@ -6,7 +6,7 @@ use Rattle.heyvl_num.specs.ExactValues.{exact_orderᵛ}
 use Rattle.heyvl_num.specs.Gcd.{gcd, gcd_steps}
 use Rattle.heyvl_num.specs.Rational.{ratio, zeroʳ, oneʳ, halfʳ, leqʳ, compareʳ, ◌+ʳ◌, ◌*ʳ◌, ◌-ʳ◌}
 use Rattle.heyvl_num.specs.Value.Value.{finite, infinite}
-use Rattle.heyvl_num.specs.Value.{Value, zeroᵛ, oneᵛ, ◌+ᵛ◌, ◌*ᵛ◌, infinite_times, is_zeroʳ, leqᵛ}
+use Rattle.heyvl_num.specs.Value.{Value, zeroᵛ, oneᵛ, ◌+ᵛ◌, ◌*ᵛ◌, infinite_times, is_zeroʳ, leqᵛ, ◌≤ᵛ◌}
 use Rattle.heyvl_num.specs.WeightedSums.{scaled, joined}
 use Rattle.heyvl_places.specs.declared.spans.Span.{Span}
 use Rattle.heylo_formula.specs.Formula.{Form, Cond, Term}
@@ -19,7 +19,7 @@ use Rattle.refute_runs.specs.RefutedAnswers.{PassesAt, StaysWithin, StopsAt}
 use Rattle.refute_runs.specs.RefutedAnswers.StopsAt.{by_number, by_step}
 use Rattle.refute_runs.specs.Shortages.{IsShort}
 use Rattle.refute_runs.specs.Shortages.IsShort.{final_adding, no_order, no_pre, no_sum}
-use Rattle.refute_runs.specs.SumsAfter.{together, unrolled_in}
+use Rattle.refute_runs.specs.SumsAfter.{IsWithinBefore, together, unrolled_in}
 use Rattle.run_unroller.specs.MergedLists.{merged_onto}
 use Rattle.run_unroller.specs.Unrolling.{Unrolling, unrolling_of}
 use Rattle.run_unroller.specs.declared.answers.Unrolled.TheVariants as unrolled
@@ -172,3 +172,27 @@ first_does_not_pass sum bound h = let e = subst (λ v. leqᵛ (whole 1) v ≡ fa
 second_does_not_stay : (sum bound : Value) → StaysWithin (unrolled_in pays 0 [] []) (Some (whole 1)) 2 sum bound → ⊥
 unfolding merged_onto joined scaled halfʳ ratio gcd gcd_steps zeroʳ oneʳ zeroᵛ oneᵛ ◌+ʳ◌ ◌*ʳ◌ ◌-ʳ◌ ◌+ᵛ◌ ◌*ᵛ◌ infinite_times is_zeroʳ leqʳ leqᵛ compareʳ exact_sum sum_fits exact_product product_fits exact_order order_fits
 second_does_not_stay sum bound h = let e = subst (λ v. leqᵛ (whole 2) v ≡ true) (sym (of_some (whole 1) bound h.given)) (subst (λ v. leqᵛ v bound ≡ true) (sym (of_some (whole 2) sum h.summed)) h.within.holds) in cc
+
+-- Two rewards of 1, and then a post that has no sum with them.
+abbrev late_sum : List TypedProcedure
+late_sum = procedure 0 [] [] (number 1) (number 170141183460469231731687303715884105727) (Act.reward (number 1) place ∷ Act.reward (number 1) place ∷ Act.reward (number 1) place ∷ []) ∷ []
+
+late_sums : (together (unrolled_in late_sum 0 [] [] 2) ≡ Some (whole 2)) × (together (unrolled_in late_sum 0 [] [] 3) ≡ None)
+unfolding merged_onto joined scaled halfʳ ratio gcd gcd_steps zeroʳ oneʳ zeroᵛ oneᵛ ◌+ʳ◌ ◌*ʳ◌ ◌-ʳ◌ ◌+ᵛ◌ ◌*ᵛ◌ infinite_times is_zeroʳ leqʳ leqᵛ compareʳ exact_sum sum_fits exact_product product_fits exact_order order_fits
+late_sums = (refl, refl)
+
+two_above : whole 2 ≤ᵛ whole 1 → ⊥
+unfolding ratio gcd gcd_steps leqʳ leqᵛ
+two_above h = let k : false ≡ true = h.holds in absurd (cc)
+
+past_two : (bound : Value) → Some (whole 1) ≡ Some bound → IsWithinBefore (unrolled_in late_sum 0 [] []) bound 3 → ⊥
+past_two bound e w =
+    let s = sym late_sums.0 ∙ w.1.0 in
+    let a : whole 2 ≡ w.0 = cc in
+    let b : whole 1 ≡ bound = cc in
+    two_above (subst (λ v. v ≤ᵛ whole 1) (sym a) (subst (λ v. w.0 ≤ᵛ v) (sym b) w.1.1))
+
+-- After 3 steps there is no stop, since the sum after 2 steps is above the pre.
+no_stop_past_violation : (answer : Unrolling) → StopsAt (unrolled_in late_sum 0 [] []) (Some (whole 1)) 9 3 answer → ⊥
+no_stop_past_violation answer (by_step bound one few names same given before) = past_two bound given before
+no_stop_past_violation answer (by_number few short same before) = past_two (whole 1) refl (before (whole 1) refl)
