@@ -7,6 +7,7 @@ pub mod RaisedBounds
 pub mod OneParts
 pub mod RemainderBounds
 mod Examples
+mod LawExamples
 pub mod VerdictsOn
 pub mod StartLaws
 pub mod MadeDecisions
