@@ -17,5 +17,6 @@ pub mod FreeVariables
 pub mod GeneratedOverOwn
 pub mod FreshVariables
 mod FreshExamples
+mod LawExamples
 pub mod EncodedBinders
 pub mod exported
