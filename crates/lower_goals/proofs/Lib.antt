@@ -10,6 +10,7 @@ pub mod StartParts
 pub mod StartForms
 pub mod MadeStarts
 mod RemainderExamples
+mod WitnessExamples
 pub mod PlacedForms
 pub mod Positions
 pub mod PutSizes
