@@ -132,6 +132,8 @@ module _ (none : Vec LoopAnswer Global) (no_loops : none.items ≡ []) where
     proved = λ p v on e. absurd (false≢true (ap says_proved (verdict_is NoBody v p on) ∙ e));
     shown = λ p id state on. absurd (not_falsified id state (verdict_is NoBody (NotVerified id state) p on));
     unranked = λ p n state on. absurd (none_listed on.line on.answer.loops.items (ap (λ (x : Answer). x.loops.items) (only (answer NoBody) on.answer on.before on.behind on.all) ∙ no_loops) on.listed);
+    as_shown = λ p id state on. absurd (not_falsified id state (verdict_is NoBody (NotVerified id state) p on));
+    unranked_as_shown = λ p n state on. absurd (none_listed on.line on.answer.loops.items (ap (λ (x : Answer). x.loops.items) (only (answer NoBody) on.answer on.before on.behind on.all) ∙ no_loops) on.listed);
   }
 
   -- `certify` writes the title and the end.

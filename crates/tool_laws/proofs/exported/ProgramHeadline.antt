@@ -39,7 +39,7 @@ bounded_where_verified bytes file p sums settings later end told v same main =
 spelled_again : ProgramsAreTranslated → (bytes : List ℕ) (reply : Reply) (t : Translated bytes reply) → IsPgclReply bytes reply → IsSpelledAgain t.file
 spelled_again translated bytes reply t replied =
     let k = translated bytes t.file reply t.becomes replied in
-    record { other = k.1.0; spells = subst (λ (r : Reply). Spells r.output k.1.0) t.told k.1.1.0; same = k.1.1.1 }
+    record { other = k.1.0; spells = subst (λ (r : Reply). Spells r.output k.1.0) t.told k.1.1; same = k.1.2 }
 
 from_came : ProgramFilesHaveSums → ProgramsAreTranslated → (name : List ℕ) (made : Call) (done : Writing) (outcome : Outcome) (reply : Reply) → outcome.fault ≡ faults.Nothing → IsWritten reply done outcome → CameTo (Pgcl name) (Files.one name) made reply
     → IsTranslatedFrom name made done outcome
