@@ -6,6 +6,7 @@ import shutil
 import signal
 import subprocess
 import sys
+import tempfile
 import threading
 import typing
 
@@ -150,6 +151,24 @@ def read_text(path, name=None):
     if len(data) > LONGEST:
         raise Refusal(f"{name or path}: file too long", 3)
     return decoded(data)
+
+
+def replace(name, text):
+    """Puts a text in the place of a file, at once and whole; a file that may not be written stays."""
+    path, new = os.path.realpath(name), None
+    try:
+        with open(path, "r+b"):
+            handle, new = tempfile.mkstemp(dir=os.path.dirname(path), prefix=".new-")
+        with os.fdopen(handle, "wb") as file:
+            file.write(encoded(text))
+        shutil.copymode(path, new)
+        os.replace(new, path)
+        new = None
+    except OSError as error:
+        raise Refusal(f"{name}: {error.strerror}", 6) from error
+    finally:
+        if new:
+            os.unlink(new)
 
 
 def fault(output):

@@ -1,1 +1,2 @@
-"""Proposes loop invariants, bounds and rankings, with `caesar verify` as the judge. docs/INVARIANTS.md says what it does."""
+"""Proposes loop invariants, bounds and rankings, with `caesar verify` as the judge. docs/INVARIANTS.md says what it
+does."""

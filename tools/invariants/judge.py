@@ -1,11 +1,13 @@
-"""The program `caesar`, which alone says what holds: its answers on texts."""
+"""The program `caesar`, which alone decides what holds: its answers on texts."""
 import os
 import re
 import tempfile
 import time
-from fractions import Fraction
 
 import calls
+import evaluate
+import reports
+
 
 class Judge:
     """Runs a program, for at most `longest` seconds; `calls` counts its answers."""
@@ -14,27 +16,31 @@ class Judge:
         self.program, self.longest, self.calls = program, longest, 0
 
     def run(self, command, text, *arguments, seconds=None, script=None):
-        """The status and the output of a command on a text, and on a script behind the arguments; None where it takes too long."""
+        """The status and the output of a command on a text, and on a script after the arguments."""
         self.calls += 1
         with tempfile.TemporaryDirectory() as folder:
             for name, content in (("file.heyvl", text), ("file.script", script or "")):
                 with open(os.path.join(folder, name), "wb") as file:
                     file.write(calls.encoded(content))
             words = [command, "file.heyvl", *arguments, *(["file.script"] if script else [])]
-            answer = calls.call(self.program, words, folder, max(self.longest if seconds is None else seconds, 0.2))
+            seconds = max(self.longest if seconds is None else seconds, 0.2)
+            answer = calls.call(self.program, words, folder, seconds)
         return answer if answer.status is not None else calls.Answer(None, "unknown (bound): time")
 
+    def verdicts(self, text, seconds):
+        """The verdicts of `verify`, by the names of procedures twice, or of procedure and loop; and why there are
+        none."""
+        status, output = self.run("verify", text, seconds=min(self.longest, seconds))
+        if "fault 3: " in output:
+            return {}, "unknown (bound): bits"
+        if status in (0, 1, 2):
+            return reports.verdicts(output), ""
+        return {}, output.strip() if status is None else f"status {status}: {output.strip()}"
+
     def verdict(self, text, name, end, loop=None):
-        """What `verify` says of a procedure, or of a loop with a ranking, until a time."""
-        status, output = self.run("verify", text, seconds=min(self.longest, end - time.time()))
-        if status not in (0, 1, 2):
-            return output.strip() if status is None else f"status {status}: {output.strip()}"
-        is_there, wanted = False, f"{name}: " if loop is None else f"  loop {loop}: "
-        for line in output.splitlines():
-            is_there = line.startswith(name + ": ") or is_there and line.startswith(" ")
-            if is_there and line.startswith(wanted):
-                return line[len(wanted):]
-        return output.strip()
+        """The verdict on a procedure, or on the ranking of a loop, until a time."""
+        found, reason = self.verdicts(text, end - time.time())
+        return found.get((name, f"loop {loop}" if loop else name), reason)
 
 
 def is_accepted(verdict):
@@ -43,16 +49,11 @@ def is_accepted(verdict):
 
 
 def state_of(verdict):
-    """The state in a verdict: the number of the loop that it is about, or 0; the values of names; and those of choices."""
+    """The state in a verdict: the number of the loop that it is about, or 0; the values of variables; those of
+    choices."""
     about = re.search(r"invariant of loop (\d+)", verdict)
-    number, plain, marked = int(about[1]) if about else 0, {}, {}
-    for part in verdict.split(": ", 1)[-1].split(", "):
-        name, _, value = part.partition(" = ")
-        if value:
-            value = value == "true" if value in ("true", "false") else Fraction(value)
-            value = int(value) if isinstance(value, Fraction) and value.denominator == 1 else value
-            if "'" in name:
-                marked.setdefault(name.split("'")[0], []).append(value)
-            else:
-                plain[name] = value
-    return number, plain, marked
+    plain, choices = evaluate.read_state(verdict.partition(": ")[2])
+    marked = {}
+    for (name, _), value in choices.items():
+        marked.setdefault(name, []).append(value)
+    return int(about[1]) if about else 0, plain, marked

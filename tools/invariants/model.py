@@ -1,13 +1,13 @@
-"""A procedure as functions of a state. What a state is worth is a linear expression in unknown coefficients: a dictionary of factors by
-column, with the constant under CONSTANT, or None for infinity. Schedulers choose what is best for them under the present coefficients."""
+"""A procedure as functions of a state. The value of a state is a linear expression in unknown coefficients: a
+dictionary of factors by column, with the constant under CONSTANT, or None for infinity. Schedulers choose what is best
+for them under the present coefficients."""
 import functools
 from fractions import Fraction
 
 import goals
-from invariants.expressions import INFINITY, Unsupported, compiled, names_of, variable
+from invariants.expressions import INFINITY, Failed, compiled, names_of, number, variable
 
 CONSTANT = "1"
-ZEROS = {"Bool": False}
 
 
 def of_number(value):
@@ -27,96 +27,97 @@ def mixed(weighted):
 
 
 def first_values(typed):
-    """The values that outputs and declared variables are shown with."""
-    return {name: ZEROS.get(type_name, 0) for name, type_name in typed}
+    """The values that outputs and declared variables begin with."""
+    return {name: False if type_name == "Bool" else 0 for name, type_name in typed}
 
 
 def loops_of(block):
     return [statement for statement in goals.statements_of(block) if statement[0] == "while"]
 
 
-def last_loops(block):
-    """The identities of the loops behind which nothing follows."""
-    last = block[-1] if block else ("none",)
-    if last[0] == "while":
-        return {id(last)}
-    return set().union(*map(last_loops, goals.blocks_of(last))) if last[0] in ("if", "pick") else set()
-
-
-def mentioned_behind(block):
-    """The variables that statements behind a loop mention."""
-    found, is_behind = set(), False
-    for statement in block:
-        found |= names_of(statement) if is_behind else set()
-        if loops_of([statement]):
-            is_behind = True
-            found |= set().union(*map(mentioned_behind, goals.blocks_of(statement)))
-    return found
-
-
 class Loop:
-    """A loop, or the entry of the procedure, which is number 0. `turn` gives what a state is worth after one test; `template` is what the
-    loop is taken to be worth: a function of a state, and where `rule` is a given invariant its value."""
+    """A loop, or the entry of the procedure, which is number 0. `turn` gives the value of a state after one test;
+    `template` is what the value of the loop is taken to be: a function of a state, and the value of `rule` where that
+    is given. States in `met` were met by runs; those in `pool` give rows; `finite` has the values of the variables that
+    have few."""
 
-    def __init__(self, number, scope, types, changed, guard):
-        self.number, self.scope, self.types, self.changed = number, scope, types, changed
+    def __init__(self, model, number, types, scope, changed, guard):
+        self.model, self.number, self.types, self.scope, self.changed = model, number, types, scope, changed
         self.guard, self.holds = guard, compiled(guard, types)[1]
-        self.template, self.turn, self.rule, self.is_last, self.block, self.is_plain = None, None, None, False, [], True
-        self.met, self.pool, self.finite = {}, {}, {}
+        self.template, self.turn, self.rule, self.is_plain, self.is_last = None, None, None, True, False
+        self.block, self.start, self.met, self.pool, self.finite = [], 0, {}, {}, {}
 
     def key(self, state):
         return tuple(state[name] for name in self.scope)
 
+    def note(self, state):
+        """Takes a state as a sample."""
+        self.pool.setdefault(self.key(state), state)
+
     def at(self, state):
-        """What the loop is worth where it is met."""
-        return self.template({name: state.get(name) for name in self.scope})
+        """The value of the loop where it is met."""
+        here = {name: state.get(name) for name in self.scope}
+        if self.model.seen is None:
+            return self.template(here)
+        self.model.seen.append((self, here))
+        return {}
 
 
 class Model:
-    """The loops of a procedure and its entry. `candidate` holds the present coefficients, `sides` the rows that calls add."""
+    """The loops of a procedure and its entry; with `ranked`, the number of a loop, only its iterations pay, and 1 each.
+    `candidate` has the present coefficients, `rough` these in floats, which count unless `is_exact`; `sides` has the
+    rows that calls add; `trace` records choices for `replay`."""
 
-    def __init__(self, file, procedure):
-        self.file, self.procedure, self.is_upper = file, procedure, procedure.is_upper
-        self.candidate, self.sides, self.extra, self.has_choice, self.trace, self.replay = {}, [], {}, False, None, None
+    def __init__(self, file, procedure, ranked=None):
+        self.file, self.procedure, self.ranked = file, procedure, ranked
+        self.is_upper = procedure.is_upper or ranked is not None
+        self.candidate, self.rough, self.sides, self.extra = {}, {}, [], {}
+        self.is_exact = self.has_choice = False
+        self.trace = self.replay = self.seen = None
         types = dict(procedure.inputs + procedure.outputs)
-        self.has_hole = procedure.pres == [variable("_")] and "_" not in types
-        self.pre_expression, self.post_expression = self.clauses([] if self.has_hole else procedure.pres), self.clauses(procedure.posts)
-        self.post = compiled(self.post_expression, types)[1]
+        self.has_hole = procedure.pres == [variable("_")] and "_" not in types and ranked is None
+        pres, posts = ([], []) if ranked else ([] if self.has_hole else procedure.pres, procedure.posts)
+        self.pre_expression, self.post_expression = self.clauses(pres), self.clauses(posts)
+        self.post, self.pre = (compiled(e, types)[1] for e in (self.post_expression, self.pre_expression))
         statements = loops_of(procedure.body)
-        self.numbers, self.last = {id(s): n for n, s in enumerate(statements, 1)}, last_loops(procedure.body)
-        together = [statement[1:] for statement in statements] if len(statements) > 1 else []
-        self.used = names_of(self.post_expression) | mentioned_behind(procedure.body) | names_of(together)
-        self.loops = {}
-        self.start = self.block(procedure.body, types, lambda state: of_number(self.post(state)))
-        self.entry = Loop(0, list(types), types, [name for name, _ in procedure.inputs], ("truth", True))
-        self.entry.turn = self.start
-        self.entry.rule = None if self.has_hole else self.pre_expression
-        self.pre = compiled(self.pre_expression, types)[1]
-        never = INFINITY if self.is_upper else 0
-        self.is_begun = lambda state: self.has_hole or self.pre(state) != never
-        self.use_rules()
-
-    def use_rules(self):
-        """Takes given invariants, and a pre that is given, as what they say."""
+        self.numbers = {id(s): n for n, s in enumerate(statements, 1)}
+        self.used = names_of([self.post_expression, statements if len(statements) > 1 else []])
+        self.loops, self.end = {}, lambda state: of_number(self.post(state))
+        start = self.block(procedure.body, types, self.end)
+        changed = [name for name, _ in procedure.inputs]
+        self.entry = Loop(self, 0, types, list(types), changed, ("truth", True))
+        self.entry.turn, self.entry.rule = start, None if self.has_hole else self.pre_expression
         for loop in [self.entry, *self.loops.values()]:
             if loop.rule is not None:
                 value = compiled(loop.rule, loop.types)[1]
                 loop.template = lambda state, value=value: of_number(value(state))
+        begun = self.pre if not ranked else compiled(self.clauses(procedure.pres), types)[1]
+        self.is_begun = lambda state: self.has_hole or begun(state) != (INFINITY if procedure.is_upper else 0)
 
     def clauses(self, clauses):
         """Several clauses as one."""
-        operator = "\\cup" if self.is_upper else "\\cap"
-        neutral = ("number", Fraction(0), "UInt") if self.is_upper else ("infinity",)
-        return functools.reduce(lambda a, b: (operator, a, b), clauses) if clauses else neutral
+        mark, neutral = ("\\cup", number(0)) if self.is_upper else ("\\cap", ("infinity",))
+        return functools.reduce(lambda a, b: (mark, a, b), clauses) if clauses else neutral
 
     def number(self, terms):
-        """What a linear expression is with the present coefficients."""
+        """The value of a linear expression under the present coefficients."""
         if terms is None:
             return INFINITY
-        return sum(factor if column == CONSTANT else factor * self.candidate.get(column, 0) for column, factor in terms.items())
+        values = self.candidate if self.is_exact else self.rough
+        return sum(factor if column == CONSTANT else factor * values.get(column, 0) for column, factor in terms.items())
+
+    def met(self, loop, state):
+        """The loops that an iteration from a state meets, each with its state there."""
+        self.seen = found = []
+        try:
+            loop.turn(state)
+        finally:
+            self.seen = None
+            self.sides.clear()
+        return found
 
     def chosen(self, found, is_greatest=None):
-        """The scheduler's choice, or that of a `\\cap` or `\\cup`, which later calls may replay."""
+        """The choice of a scheduler, or that of a `\\cap` or `\\cup`."""
         self.has_choice = True
         if self.replay is not None:
             return found[self.replay.pop()]
@@ -127,10 +128,12 @@ class Model:
         return found[best]
 
     def block(self, block, types, after):
-        """What a block is worth with a function of the state behind it."""
+        """The value of a block as a function of the state, where `after` is the one of what follows."""
         if not block:
             return after
         (kind, *parts), rest = block[0], block[1:]
+        if loops_of(block[:1]):
+            self.used = self.used | names_of(rest)
         if kind == "declare":
             return self.block(rest, {**types, parts[0]: parts[1]}, after)
         if kind == "while":
@@ -142,62 +145,59 @@ class Model:
         return lambda state: after({**state, name: value(state)})
 
     def through_draw(self, types, after, targets, parts):
-        (name,), draws = targets, [(weight, compiled(expression, types)[1]) for weight, expression in parts if weight]
-        return lambda state: mixed([(weight, after({**state, name: value(state)})) for weight, value in draws])
+        (name,), exact = targets, [(weight, compiled(expression, types)[1]) for weight, expression in parts if weight]
+        rough = [(float(weight), value) for weight, value in exact]
+        return lambda state: mixed([(weight, after({**state, name: value(state)}))
+                                    for weight, value in (exact if self.is_exact else rough)])
 
     def through_toss(self, types, after, targets, expression):
         (name,), chance = targets, compiled(expression, types)[1]
 
         def tossed(state):
-            heads = min(Fraction(chance(state)), 1)
-            return mixed([(weight, after({**state, name: side})) for weight, side in ((heads, True), (1 - heads, False)) if weight])
+            heads = min(Fraction(chance(state)) if self.is_exact else float(chance(state)), 1)
+            sides = [(weight, side) for weight, side in ((heads, True), (1 - heads, False)) if weight]
+            return mixed([(weight, after({**state, name: side})) for weight, side in sides])
         return tossed
 
     def through_reward(self, types, after, expression):
         value = compiled(expression, types)[1]
-        return lambda state: mixed([(1, after(state)), (1, of_number(value(state)))])
+        return after if self.ranked else lambda state: mixed([(1, after(state)), (1, of_number(value(state)))])
 
     def through_if(self, types, after, arms, other):
         arms = [(compiled(guard, types)[1], self.block(block, types, after)) for guard, block in arms]
         other = self.block(other, types, after)
-
-        def branched(state):
-            for guard, block in arms:
-                if guard(state):
-                    return block(state)
-            return other(state)
-        return branched
+        return lambda state: next((block for guard, block in arms if guard(state)), other)(state)
 
     def through_pick(self, types, after, mark, left, right):
         left, right = self.block(left, types, after), self.block(right, types, after)
-        return lambda state: self.chosen([left(state), right(state)], mark == "\\cup")
+        is_greatest = mark == "\\cup" or self.ranked is not None
+        return lambda state: self.chosen([left(state), right(state)], is_greatest)
 
     def through_any(self, types, after, names):
         name, *others = names
         after = self.through_any(types, after, others) if others else after
-        return lambda state: self.chosen([after({**state, name: value}) for value in self.values(state, name, types[name])])
+        return lambda state: self.chosen([after({**state, name: v}) for v in self.values(state, name, types[name])])
 
     def through_check(self, types, after, word, expression):
         """An assert or assume, with or without `co`."""
         value, is_upper = compiled(expression, types)[1], word.startswith("co")
 
         def checked(state):
-            claimed = value(state)
-            if word.endswith("assert"):
-                neutral = 0 if is_upper else INFINITY
-                return after(state) if claimed == neutral else self.chosen([of_number(claimed), after(state)], is_upper)
-            found = after(state)
-            is_met = claimed >= self.number(found) if is_upper else claimed <= self.number(found)
+            claimed, found = value(state), after(state)
             self.has_choice = self.has_choice or claimed not in (0, INFINITY)
+            if word.endswith("assert"):
+                is_neutral = claimed == (0 if is_upper else INFINITY)
+                return found if is_neutral else self.chosen([of_number(claimed), found], is_upper)
+            is_met = claimed >= self.number(found) if is_upper else claimed <= self.number(found)
             return of_number(0 if is_upper else INFINITY) if is_met else found
-        return checked
+        return after if self.ranked else checked
 
     def through_validate(self, types, after, word):
         def validated(state):
             value = self.number(after(state))
             self.has_choice = True
             return of_number((INFINITY if value == INFINITY else 0) if word == "validate" else INFINITY if value else 0)
-        return validated
+        return after if self.ranked else validated
 
     def values(self, state, name, type_name):
         """Some of the values that a choice may take."""
@@ -207,47 +207,53 @@ class Model:
         for value in state.values():
             if value is not None and not isinstance(value, bool):
                 found |= {value, value + 1, value - 1}
-        return sorted(v for v in found if (v >= 0 or type_name == "Int") and (type_name == "UReal" or Fraction(v).denominator == 1))
+        is_real, is_int = type_name == "UReal", type_name == "Int"
+        return sorted(v for v in found if (v >= 0 or is_int) and (is_real or Fraction(v).denominator == 1))
 
     def through_call(self, types, after, targets, name, arguments):
-        """A call is worth the callee's pre; a side row asks for each value of the outputs that its post shows what is wanted."""
+        """A call has the value of the callee's pre; a side row asks of each value of the outputs that the post shows
+        what is wanted."""
         called = next(procedure for procedure in self.file if procedure.name == name)
-        if called.pres == [variable("_")] and called is not self.procedure and "_" not in dict(called.inputs):
-            raise Unsupported(f"a call of {name}, whose bound was not found")
+        is_self = called is self.procedure
+        if called.pres == [variable("_")] and not is_self and "_" not in dict(called.inputs):
+            raise Failed(f"a call of {name}, whose bound was not found")
         values, scope = [compiled(argument, types)[1] for argument in arguments], dict(called.inputs + called.outputs)
         post = compiled(self.clauses(called.posts), scope)[1]
-        pre = None if called is self.procedure else compiled(self.clauses(called.pres), scope)[1]
+        pre = compiled(self.clauses([] if is_self else called.pres), scope)[1]
 
         def demand(state, given, outputs):
             if outputs:
-                for value in self.values(state, outputs[0][0], outputs[0][1]):
+                for value in self.values(state, *outputs[0]):
                     demand(state, {**given, outputs[0][0]: value}, outputs[1:])
                 return
             claimed = of_number(post(given))
-            wanted = after({**state, **{target: given[output] for target, (output, _) in zip(targets, called.outputs)}})
+            put = {target: given[output] for target, (output, _) in zip(targets, called.outputs)}
+            wanted = after({**state, **put})
             greater, less = (claimed, wanted) if self.is_upper else (wanted, claimed)
             if greater is not None:
                 self.sides.append(None if less is None else mixed([(1, greater), (-1, less)]))
 
-        def worth(state):
+        def value_of(state):
             inputs = {name: value(state) for (name, _), value in zip(called.inputs, values)}
             demand(state, inputs, called.outputs)
-            return of_number(pre(inputs)) if pre else self.entry.at({**first_values(called.outputs), **inputs})
-        return worth
+            return self.entry.at({**first_values(called.outputs), **inputs}) if is_self else of_number(pre(inputs))
+        return value_of
 
     def loop(self, statement, types, after):
-        """A loop where it is met. Its body is read with the loop behind it."""
+        """A loop where it is met. Its body is read with the loop after it."""
         _, rules, guard, body = statement
-        targets = goals.targets_of(body)
-        used = targets | self.used | names_of(guard) | names_of(body)
+        targets, number = goals.targets_of(body), self.numbers[id(statement)]
+        rule = None if number == self.ranked else rules.get("k_induction", rules.get("invariant", [None]))[-1]
+        used = set(types) if rule is not None else targets | self.used | names_of([guard, body])
         scope, changed = [name for name in types if name in used], [name for name in types if name in targets]
-        if "invariant" in rules or "k_induction" in rules:
-            scope = list(types)
-        loop = Loop(self.numbers[id(statement)], scope, types, changed, guard)
-        self.loops[loop.number] = loop
-        loop.is_last, loop.block, loop.start = id(statement) in self.last, body, getattr(statement, "start", 0)
-        loop.rule = rules.get("k_induction", rules.get("invariant", [None]))[-1]
-        loop.is_plain = "k_induction" not in rules
+        loop = self.loops[number] = Loop(self, number, types, scope, changed, guard)
+        loop.is_last, loop.block = number == self.ranked or after is self.end, body
+        loop.rule, loop.is_plain, loop.start = rule, "k_induction" not in rules, getattr(statement, "start", 0)
         inner = self.block(body, types, loop.at)
-        loop.turn = lambda state: inner(state) if loop.holds(state) else after(state)
+
+        def turn(state):
+            if loop.holds(state):
+                return mixed([(1, inner(state)), (1, {CONSTANT: int(number == self.ranked)})])
+            return {} if number == self.ranked and self.seen is None else after(state)
+        loop.turn = turn
         return loop.at

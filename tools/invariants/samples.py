@@ -1,4 +1,4 @@
-"""States at which the rows of the linear programs are asked: inputs, states that runs come by, and changed ones."""
+"""States at which the rows of the linear programs are asked: inputs, states that runs meet, and changed ones."""
 import itertools
 import random
 import time
@@ -7,38 +7,10 @@ from fractions import Fraction
 import goals
 from invariants.expressions import parts_of
 from invariants.model import first_values
-from invariants.templates import LARGE
+from invariants.templates import MOST_VALUE
 
-MOST_VALUES, FAR = 200, 1000
+MOST_VALUES, MOST_ASKED, FAR = 200, 500, 1000
 NUMBERS = ("UInt", "Int", "UReal")
-
-
-class Collector:
-    """A template that notes the states at which a loop is met."""
-
-    def __init__(self, loop, note):
-        self.loop, self.note = loop, note
-
-    def __call__(self, state):
-        self.note(self.loop, state)
-        return {}
-
-
-class Collecting:
-    """For the time of a `with`, lets all loops note the states at which they are met, in place of their templates."""
-
-    def __init__(self, model, note):
-        self.model, self.note, self.loops = model, note, [model.entry, *model.loops.values()]
-
-    def __enter__(self):
-        self.templates = [loop.template for loop in self.loops]
-        for loop in self.loops:
-            loop.template = Collector(loop, self.note)
-
-    def __exit__(self, *_):
-        for loop, template in zip(self.loops, self.templates):
-            loop.template = template
-        self.model.sides.clear()
 
 
 def is_number(value):
@@ -50,141 +22,132 @@ def size(state):
 
 
 class Samples:
-    """The samples of a model, which each loop keeps: `met` by runs, and `pool` with changed ones."""
+    """Fills the samples of the loops of a model: `met` by runs, and `pool` with changed ones too."""
 
     def __init__(self, model, expressions, seed, seconds):
-        self.model, self.random, self.loops = model, random.Random(seed), [model.loops[number] for number in sorted(model.loops)]
+        self.model, self.random, self.loops = model, random.Random(seed), [model.loops[n] for n in sorted(model.loops)]
         self.constants = sorted({int(part[1]) for expression in expressions for part in parts_of(expression)
                                  if part[0] == "number" and part[1].denominator == 1 and part[1] <= FAR})
+        entry = model.entry
         for state in self.inputs():
-            self.note(model.entry, state)
-        model.entry.met = {key: state for key, state in model.entry.pool.items() if model.is_begun(state)}
-        model.entry.finite = {name: [False, True] for name in model.entry.changed if model.entry.types[name] == "Bool"}
+            entry.note(state)
+        entry.met = {key: state for key, state in entry.pool.items() if model.is_begun(state)}
+        entry.finite = {name: [False, True] for name in entry.changed if entry.types[name] == "Bool"}
         self.explore(time.time() + seconds)
         for loop in self.loops:
-            loop.pool = dict(loop.met)
+            for state in self.some(loop.met.values(), MOST_ASKED):
+                loop.note(state)
             self.vary(loop, 250)
-            near = [state for state in loop.met.values() if all(not is_number(v) or abs(v) < 40 for v in state.values())]
-            for state in self.random.sample(near, min(60, len(near))):
+            near = [state for state in loop.met.values() if all(abs(v) < 40 for v in state.values() if is_number(v))]
+            for state in self.some(near, 60):
                 self.note_far(loop, state)
-        self.note_inner()
+        for loop in self.loops if len(self.loops) > 1 else ():
+            found = [pair for state in self.some(loop.pool.values(), 120) for pair in model.met(loop, state)]
+            for other, state in self.some([pair for pair in found if pair[0] not in (loop, entry)], 150):
+                other.note(state)
 
-    def note(self, loop, state):
-        loop.pool.setdefault(loop.key(state), state)
+    def some(self, things, most):
+        """Some of the things, at random."""
+        things = list(things)
+        return self.random.sample(things, min(most, len(things)))
 
-    def some(self, type_name):
+    def any_value(self, type_name):
         """Any value of a type, small as a rule."""
-        if type_name == "Bool":
-            return self.random.random() < 0.5
         chance = self.random
-        value = max(0, chance.choice([0, 1, 2, 3, 4, chance.randint(0, 12), chance.randint(0, 12), chance.choice([37, 100, FAR]),
-                                      chance.choice(self.constants or [5]) + chance.randint(-1, 1)]))
+        if type_name == "Bool":
+            return chance.random() < 0.5
+        near = max(0, chance.choice(self.constants or [5]) + chance.randint(-1, 1))
+        far = chance.choice([37, 100, FAR])
+        value = chance.choice([chance.randint(0, 4)] * 5 + [chance.randint(0, 12)] * 2 + [near, far])
         if type_name == "UReal":
-            return chance.choice([Fraction(value, chance.choice([1, 2])), Fraction(chance.randint(0, 16), chance.choice([2, 3, 4, 8]))])
+            return chance.choice([Fraction(value, 2), Fraction(chance.randint(0, 16), chance.choice([2, 3, 4, 8]))])
         return value * chance.choice([1, -1]) if type_name == "Int" else value
 
     def inputs(self):
-        """Inputs of a grid, at random, Ints around 0, and far away."""
-        typed, zeros, chance = self.model.procedure.inputs, first_values(self.model.procedure.outputs), self.random
+        """Inputs of a grid, at random, Ints with their distances, and far away."""
+        typed, chance = dict(self.model.procedure.inputs), self.random
         few = [[0, 1, 2, 3, 4, 5, 6, 7, 12, 37, FAR], [0, 1, 2, 5, 37], [0, 1, 3]][min(max(len(typed), 2), 4) - 2]
         quarters = [Fraction(n, 4) for n in (0, 1, 2, 3, 4, 5, 6, 8, 20, 4 * FAR)] if len(typed) <= 2 else few
-        grids = [[False, True] if t == "Bool" else quarters if t == "UReal" else few for _, t in typed]
-        points = list(itertools.product(*grids)) if len(typed) < 9 else []
-        chance.shuffle(points)
-        found = [dict(zip(dict(typed), point)) for point in points[:260]]
-        found += [{name: self.some(t) for name, t in typed} for _ in range(80 if typed else 0)]
-        numeric = [name for name, t in typed if t != "Bool"]
+        grids = [{"Bool": [False, True], "UReal": quarters}.get(t, few) for t in typed.values()]
+        found = self.some(map(dict, (zip(typed, p) for p in itertools.product(*grids))), 260) if len(typed) < 9 else []
+        found += [{name: self.any_value(t) for name, t in typed.items()} for _ in range(80)]
+        numeric = [name for name, t in typed.items() if t != "Bool"]
         for x, y in itertools.permutations(numeric, 2):
-            for n in (0, 1, 2, 3, 5, 8, 37, FAR, FAR + 1) if dict(typed)[x] == "Int" else ():
-                found += [{**{name: self.some(t) for name, t in typed}, x: sign * n, y: n} for sign in (-1, 1)]
+            for n in (0, 1, 2, 3, 5, 8, 37, FAR, FAR + 1) if typed[x] == "Int" else ():
+                found += [{**{name: self.any_value(t) for name, t in typed.items()}, x: s * n, y: n} for s in (-1, 1)]
         for _ in range(120 if numeric else 0):
+            state = {name: self.any_value("Bool") if t == "Bool" else chance.randint(0, 9) for name, t in typed.items()}
             far = [name for name in numeric if chance.random() < 0.5] or numeric
-            state = {name: self.some("Bool") if t == "Bool" else chance.randint(0, 9) for name, t in typed}
             found.append({**state, **{name: state[name] + chance.choice([FAR, FAR, FAR, 2 * FAR]) for name in far}})
-        found = [{**zeros, **state} for state in found or [{}]]
-        for _ in range(6):
-            found.append({**found[0], **{name: self.some(t) for name, t in self.model.procedure.outputs}})
-        return found
+        outputs = self.model.procedure.outputs
+        found += [{**found[0], **{name: self.any_value(t) for name, t in outputs}} for _ in range(6)]
+        return [{**first_values(outputs), **state} for state in found]
 
     def explore(self, until):
-        """Collects states that runs meet, until a time: first in any order, then those in which a variable is largest, which shows whether
-        it has few values."""
-        queues, chance = {loop.number: [] for loop in self.loops}, self.random
-        most, is_cut = [1500], [False]
+        """Collects states that runs meet, until a time: first in any order, then those in which a variable is largest,
+        which shows whether it has few values."""
+        queues, chance, model, is_cut = {loop: [] for loop in self.loops}, self.random, self.model, False
 
-        def note(loop, state):
-            key = loop.key(state)
-            if loop.number and key not in loop.met:
-                is_cut[0] = is_cut[0] or len(loop.met) >= most[0]
-                if len(loop.met) < most[0]:
-                    loop.met[key] = state
-                    queues[loop.number].append((loop, state))
-        with Collecting(self.model, note):
-            for state in sorted(self.model.entry.met.values(), key=size):
-                self.model.start(state)
-            for _ in range(900 + 300 * len(self.loops)):
-                waiting = [queue for queue in queues.values() if queue]
-                if not waiting or time.time() > until:
-                    break
-                queue = chance.choice(waiting)
-                if chance.random() < 0.6:
-                    at = chance.randrange(len(queue) if chance.random() < 0.5 else len(queue) // 8 + 1)
-                    queue[at], queue[-1] = queue[-1], queue[at]
-                loop, state = queue.pop()
-                loop.turn(state)
-            before = {(loop.number, name): {s[name] for s in loop.met.values()} for loop in self.loops for name in loop.scope}
-            most[0] = 1900
-            for loop, name in [(loop, name) for loop in self.loops for name in loop.scope if loop.types[name] in NUMBERS]:
-                self.push(loop, name, queues[loop.number], until)
-        is_done = not any(queues.values()) and not is_cut[0]
-        for loop in self.loops:
-            loop.finite = {name: sorted({s[name] for s in loop.met.values()}) for name in loop.scope
-                           if self.is_finite(loop, name, is_done, before[loop.number, name])}
-
-    def push(self, loop, name, queue, until):
-        """Lets 40 states turn, each the one with the largest value of a variable."""
-        for _ in range(40):
-            waiting = [(abs(s[name]), at) for at, (_, s) in enumerate(queue) if is_number(s[name]) and abs(s[name]) < 500]
+        def take(loop, state, most):
+            nonlocal is_cut
+            for met, at in model.met(loop, state):
+                if met.number and met.key(at) not in met.met:
+                    is_cut = is_cut or len(met.met) >= most
+                    if len(met.met) < most:
+                        met.met[met.key(at)] = at
+                        queues[met].append(at)
+        for state in sorted(model.entry.met.values(), key=size):
+            take(model.entry, state, 1500)
+        for _ in range(900 + 300 * len(self.loops)):
+            waiting = [loop for loop in self.loops if queues[loop]]
             if not waiting or time.time() > until:
-                return
-            loop.turn(queue.pop(max(waiting)[1])[1])
+                break
+            loop = chance.choice(waiting)
+            queue = queues[loop]
+            if chance.random() < 0.6:
+                at = chance.randrange(len(queue) if chance.random() < 0.5 else len(queue) // 8 + 1)
+                queue[at], queue[-1] = queue[-1], queue[at]
+            take(loop, queue.pop(), 1500)
+        before = {loop: {name: {s[name] for s in loop.met.values()} for name in loop.scope} for loop in self.loops}
+        for loop in self.loops:
+            for name in [name for name in loop.scope if loop.types[name] in NUMBERS]:
+                for _ in range(40):
+                    queue = queues[loop]
+                    sizes = [(abs(s[name]), at) for at, s in enumerate(queue) if is_number(s[name])]
+                    sizes = [pair for pair in sizes if pair[0] < 500]
+                    if not sizes or time.time() > until:
+                        break
+                    take(loop, queue.pop(max(sizes)[1]), 1900)
+        is_done = not any(queues.values()) and not is_cut
+        for loop in self.loops:
+            for name in loop.scope:
+                values = {state[name] for state in loop.met.values()}
+                if self.are_few(values, loop.types[name], is_done or before[loop][name] == values):
+                    loop.finite[name] = sorted(values)
 
     @staticmethod
-    def is_finite(loop, name, is_done, before):
-        """Whether a variable seems to have few values: all were met, or pushing it showed no further one."""
-        values = {state[name] for state in loop.met.values()}
-        if loop.types[name] == "Bool":
-            return True
-        if not values or None in values or len(values) > MOST_VALUES or max(map(abs, values)) > LARGE:
-            return False
-        return (is_done or before == values) and all(Fraction(value).denominator == 1 for value in values)
-
-    def note_inner(self):
-        """Notes the states at which loops are met from the states of other loops."""
-        for loop in self.loops if len(self.loops) > 1 else ():
-            found, states = [], list(loop.pool.values())
-            with Collecting(self.model, lambda met, state: found.append((met, state))):
-                for state in self.random.sample(states, min(120, len(states))):
-                    loop.turn(state)
-            others = [(met, state) for met, state in found if met is not loop and met.number]
-            for met, state in self.random.sample(others, min(150, len(others))):
-                self.note(met, state)
+    def are_few(values, type_name, are_all):
+        """Whether a variable seems to have these values alone."""
+        if type_name == "Bool" or not values or None in values:
+            return type_name == "Bool"
+        is_small = len(values) <= MOST_VALUES and max(map(abs, values)) <= MOST_VALUE
+        return are_all and is_small and all(Fraction(value).denominator == 1 for value in values)
 
     def note_far(self, loop, state):
         """Notes copies of a state in which a changed variable is large."""
         for name in loop.changed:
-            if name in loop.scope and loop.types[name] in NUMBERS and name not in loop.finite and state[name] is not None:
-                self.note(loop, {**state, name: state[name] + FAR})
+            if name in loop.scope and name not in loop.finite and is_number(state[name]):
+                loop.note({**state, name: state[name] + FAR})
 
     def vary(self, loop, count):
         """Notes states of runs with some changed variables at other values."""
-        states, chance = list(loop.met.values()), self.random
+        states = list(loop.met.values())
         for _ in range(count if states else 0):
-            state = dict(chance.choice(states))
+            state = dict(self.random.choice(states))
             for name in loop.changed:
-                if chance.random() < 0.6:
+                if self.random.random() < 0.6:
                     state[name] = self.other(loop, state, name)
-            self.note(loop, state)
+            loop.note(state)
 
     def other(self, loop, state, name):
         """Another value for a variable: near that of some variable, one that was met, or any."""
@@ -196,40 +159,40 @@ class Samples:
             return value if type_name == "UReal" else int(value)
         if loop.finite.get(name) and chance.random() < 0.7:
             return chance.choice(loop.finite[name])
-        return self.some(type_name)
+        return self.any_value(type_name)
 
     def learn(self, number, plain, marked):
-        """Takes a state that `verify` shows: for the loop of this number where it is about one, else for the inputs and what is met from
-        there with the values of the choices, which have marks."""
-        entry = self.model.entry
+        """Takes a state that `verify` shows: for the loop of this number where it is about one, else for the inputs and
+        what is met from there with the values of the choices, which have marks."""
+        model, heads = self.model, self.model.procedure.inputs + self.model.procedure.outputs
         if number:
-            loop = self.model.loops[number]
-            self.note(loop, {name: plain.get(name, first_values([(name, loop.types[name])])[name]) for name in loop.scope})
-        typed = self.model.procedure.inputs + self.model.procedure.outputs
-        state = {name: plain.get(name, value) for name, value in first_values(typed).items()}
+            loop = model.loops[number]
+            zeros = first_values((name, loop.types[name]) for name in loop.scope)
+            loop.note({name: plain.get(name, zeros[name]) for name in loop.scope})
+        state = {name: plain.get(name, value) for name, value in first_values(heads).items()}
         for name, values in marked.items():
-            self.model.extra.setdefault(name, set()).update(value for value in values if is_number(value))
-        self.note(entry, state)
-        met = []
-        with Collecting(self.model, lambda loop, state: met.append((loop, state)) if loop.number else None):
-            self.model.start(state)
-            for step in range(3 if len(self.loops) > 1 else 1):
-                waiting, met[:] = list(met)[:60], []
-                for loop, at in waiting:
-                    for changed in self.with_marks(loop, at, marked):
-                        self.note(loop, changed)
-                        if any(is_number(value) and 20 < abs(value) < 500 for value in changed.values()):
-                            self.note_far(loop, changed)
-                        if step < 2 and len(self.loops) > 1 and self.random.random() < 0.2:
-                            loop.turn(changed)
+            model.extra.setdefault(name, set()).update(value for value in values if is_number(value))
+        model.entry.note(state)
+        is_single = len(self.loops) == 1
+        waiting = model.met(model.entry, state)
+        for step in range(1 if is_single else 3):
+            found = []
+            for loop, at in [pair for pair in waiting if pair[0].number][:60]:
+                for changed in self.with_marks(loop, at, marked):
+                    loop.note(changed)
+                    if any(is_number(value) and 20 < abs(value) < 500 for value in changed.values()):
+                        self.note_far(loop, changed)
+                    if not is_single and step < 2 and self.random.random() < 0.2:
+                        found += model.met(loop, changed)
+            waiting = found
 
     @staticmethod
     def with_marks(loop, state, marked):
         """States in which changed variables have values that a counterexample chooses."""
         choices = []
         for name in loop.scope:
-            more = [False if loop.types[name] == "Bool" else 0, *marked.get(name, [])] if name in loop.changed else []
-            choices.append(list(dict.fromkeys([state[name], *more])))
+            more = [*first_values([(name, loop.types[name])]).values(), *marked.get(name, [])]
+            choices.append(list(dict.fromkeys([state[name], *(more if name in loop.changed else [])])))
         return [dict(zip(loop.scope, values)) for values in itertools.islice(itertools.product(*choices), 200)]
 
 
@@ -244,13 +207,10 @@ def copies_of(procedure):
 
 def expressions_of(block):
     """The expressions of the statements of a block."""
-    for statement in goals.statements_of(block):
-        kind = statement[0]
-        if kind == "if":
-            yield from (guard for guard, _ in statement[1])
-        elif kind == "draw":
-            yield from (value for _, value in statement[2])
+    for kind, *parts in goals.statements_of(block):
+        if kind in ("if", "draw"):
+            yield from (pair[kind == "draw"] for pair in parts[kind == "draw"])
         elif kind == "call":
-            yield from statement[3]
+            yield from parts[2]
         elif kind in ("set", "toss", "while", "check", "reward"):
-            yield statement[1 if kind == "reward" else 2]
+            yield parts[0 if kind == "reward" else 1]

@@ -1,12 +1,13 @@
 """Exact linear programs over fractions by the dual simplex method.
 
-Minimises a sum of nonnegative costs over x >= 0 under rows `terms * x + constant >= 0`, which are added one by one. x = 0 is dual feasible
-from the start, so there is no first phase, and each row that is added later keeps it so."""
+Minimises a sum of nonnegative costs over x >= 0 under rows `terms * x + constant >= 0`, which are added one by one. x =
+0 is dual feasible from the start, so there is no first phase, and each row that is added later keeps it so."""
 from fractions import Fraction
 
 
 class LinearProgram:
-    """Rows: a basic variable has a row (value, {other variable: factor}). Columns are named 0, 1, .. and slacks -1, -2, .."""
+    """Rows: a basic variable has a row (value, {other variable: factor}). Columns are named 0, 1, .. and slacks -1, -2,
+    .."""
 
     def __init__(self):
         self.costs, self.rows, self.count, self.pivots = {}, {}, 0, 0
@@ -54,7 +55,8 @@ class LinearProgram:
                 return True
             if is_late():
                 return None
-            ratios = [(self.costs.get(name, 0) / factor, name) for name, factor in self.rows[leaving][1].items() if factor > 0]
+            terms = self.rows[leaving][1].items()
+            ratios = [(self.costs.get(name, 0) / factor, name) for name, factor in terms if factor > 0]
             if not ratios:
                 return False
             self.pivot(leaving, min(ratios)[1])
