@@ -5,7 +5,7 @@ import heyvl
 
 PART = re.compile(r"//[^\n]*|/\*.*?\*/|\n", re.S)
 CONTINUED = 4
-NO_SPACE_BEHIND, NO_SPACE_BEFORE = ("(", "["), (")", "]", ",", ":")
+NO_SPACE_AFTER, NO_SPACE_BEFORE = ("(", "["), (")", "]", ",", ":")
 
 
 class Comment:
@@ -177,7 +177,7 @@ class Layout:
         indent = self.indent + (0 if token.text == "else" else CONTINUED)
         last = self.tokens[at - 1]
         is_broken = any(comment.is_line() for comment in last.after)
-        is_inside_bracket = last.text in NO_SPACE_BEHIND and not last.after
+        is_inside_bracket = last.text in NO_SPACE_AFTER and not last.after
         for comment in token.before:
             if is_broken or comment.is_line() and comment.line_feeds:
                 self.new_line(indent)
