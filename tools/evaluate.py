@@ -80,6 +80,9 @@ class Evaluation(goals.Goal):
     def weighed(self, state, weight):
         return {**state, WEIGHT: Value("#", False, state[WEIGHT].amount * weight)}
 
+    def made(self, state, choices):
+        return {**state, CHOICES: Value("#", False, state[CHOICES].amount + tuple(choices))}
+
     def draw_worth(self, state, rest, targets, parts):
         found = ZERO
         for weight, expression in parts:
@@ -94,8 +97,7 @@ class Evaluation(goals.Goal):
 
     def any_worth(self, state, rest, names):
         chosen = self.state((name, state[name].type) for name in names)
-        made = state[CHOICES].amount + tuple(chosen.items())
-        return rest({**state, **chosen, CHOICES: Value("#", False, made)})
+        return rest(self.made({**state, **chosen}, chosen.items()))
 
     def reward_worth(self, state, rest, expression):
         reward = self.value(expression, state)
@@ -112,9 +114,9 @@ class Evaluation(goals.Goal):
 
     def pick_worth(self, state, rest, mark, left, right):
         start = len(self.ends)
-        one = self.inner(left, state, rest)
+        one = self.inner(left, self.made(state, [(None, "left")]), rest)
         middle = len(self.ends)
-        two = self.inner(right, state, rest)
+        two = self.inner(right, self.made(state, [(None, "right")]), rest)
         is_left = self.at_most(two, one) if mark == "\\cup" else self.at_most(one, two)
         self.ends = self.ends[:middle] if is_left else self.ends[:start] + self.ends[middle:]
         return one if is_left else two
