@@ -348,8 +348,10 @@ def refuse_load(tokens):
 
 
 def literal(expression):
-    """The fraction that a literal stands for: a number, a negated one, or one divided by another; None where it stands for none."""
+    """The value of a literal without parentheses: a number, a negated one, or one divided by another; else None."""
     kind, *parts = expression
+    if expression.group is not None:
+        return None
     if kind == "number":
         return parts[0]
     numbers = [literal(part) for part in parts] if kind in ("negative", "/") else [None]
