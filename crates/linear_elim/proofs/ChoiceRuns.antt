@@ -75,13 +75,16 @@ an_end low p i e f = ap₂ (λ (p : Rational) (i : Bool). the_end p i) e f
     the_end p i = record { place = p; inside = i }
 
 pub break_found : (rows : List Row) (vars : List Ty) (steps rest before : List Step) (s : Step) (cs ds es : List (ℕ × Rational)) (ty : Ty) (low high : End) (p : Pick) (b : Broken) → IsEliminated rows vars steps → rest ≡ before ++ (s ∷ []) → IsSofar rows vars steps rest cs → IsNextPick s ds ty p → ds ≡ cs → ty ≡ types_in vars s.var → p ≡ Breaks low high → b.var ≡ s.var → b.earlier.items ≡ map (λ c. (c.0, Num c.1)) es → es ≡ cs → b.low ≡ low.place → b.low_in ≡ low.inside → b.high ≡ high.place → b.high_in ≡ high.inside → IsBreak rows vars b × HasNarrowEnds b
-break_found rows vars steps rest before s cs ds es ty low high p b h e f n a t g m k q l li u ui = (record {
-  solvable = solved rows vars steps h;
-  chosen = cs;
-  choice = subst (λ i. ChoosesFrom rows vars (broke b.var cs i)) (sym (two_ends (an_end low b.low b.low_in l li) (an_end high b.high b.high_in u ui))) (subst (λ y. ChoosesFrom rows vars (broke y cs (record { low = Some low; high = Some high }))) (sym m) (breaks_here rows vars steps h before s cs (subst (λ r. IsSofar rows vars steps r cs) e f) low high (next_is vars s cs ds ty p (Breaks low high) n a t g)));
-  earlier = k ∙ ap (λ ys. map (λ c. (c.0, Num c.1)) ys) q;
-  ordered = subst (λ y. y ≤ʳ b.high) (sym l) (subst (λ y. low.place ≤ʳ y) (sym u) (ordered_here rows vars steps h before s cs (subst (λ r. IsSofar rows vars steps r cs) e f) low high (next_is vars s cs ds ty p (Breaks low high) n a t g)));
-}, let w = narrow_here rows vars steps h before s cs (subst (λ r. IsSofar rows vars steps r cs) e f) low high (next_is vars s cs ds ty p (Breaks low high) n a t g) in record { low = subst (λ y. fits y ≡ true) (sym l) w.0; high = subst (λ y. fits y ≡ true) (sym u) w.1 })
+break_found rows vars steps rest before s cs ds es ty low high p b h e f n a t g m k q l li u ui = (
+  record {
+    solvable = solved rows vars steps h;
+    chosen = cs;
+    choice = subst (λ i. ChoosesFrom rows vars (broke b.var cs i)) (sym (two_ends (an_end low b.low b.low_in l li) (an_end high b.high b.high_in u ui))) (subst (λ y. ChoosesFrom rows vars (broke y cs (record { low = Some low; high = Some high }))) (sym m) (breaks_here rows vars steps h before s cs (subst (λ r. IsSofar rows vars steps r cs) e f) low high (next_is vars s cs ds ty p (Breaks low high) n a t g)));
+    earlier = k ∙ ap (λ ys. map (λ c. (c.0, Num c.1)) ys) q;
+    ordered = subst (λ y. y ≤ʳ b.high) (sym l) (subst (λ y. low.place ≤ʳ y) (sym u) (ordered_here rows vars steps h before s cs (subst (λ r. IsSofar rows vars steps r cs) e f) low high (next_is vars s cs ds ty p (Breaks low high) n a t g)));
+  },
+  let w = narrow_here rows vars steps h before s cs (subst (λ r. IsSofar rows vars steps r cs) e f) low high (next_is vars s cs ds ty p (Breaks low high) n a t g) in record { low = subst (λ y. fits y ≡ true) (sym l) w.0; high = subst (λ y. fits y ≡ true) (sym u) w.1 },
+)
   where
     ends_at : End → End → Interval
     ends_at x y = record { low = Some x; high = Some y }

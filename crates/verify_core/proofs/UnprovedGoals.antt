@@ -187,7 +187,7 @@ other_goals_missed ps table ranks checked checked_ranks rules h t x y =
     let certs = certified_in_file table ranks in
     let all = unproved_lack None (goals_in table ranks) (names_grow ps table ranks rules h t) in
     let lack : Each (Each (Lacks (certified_in_file table ranks))) table × Each (Each (Lacks (certified_in_file table ranks))) ranks =
-        tables_lack certs ps 0 ps table ranks h t (subst (λ cs. Each (Lacks cs) (goals_in table ranks)) (sym (in_one_list table ranks)) all) in (
+    tables_lack certs ps 0 ps table ranks h t (subst (λ cs. Each (Lacks cs) (goals_in table ranks)) (sym (in_one_list table ranks)) all) in (
       table_missed (IsGoalOf ps) bound_goals (bound_same ps) certs 0 ps table checked h x lack.0,
       table_missed (IsRankingGoal ps) ranked_loops (ranking_same ps) certs 0 ps ranks checked_ranks t y lack.1,
     )

@@ -18,7 +18,7 @@ pub returns-in-Run : goal.returns-in-Run
 returns-in-Run c =
     let named : c.as_bytes-name.result.now ≡ c.in-Run.procedure = c.as_bytes-name.ensures.value ∙ c.as_str.ensures in
     subst (λ (s : Settings). IfOk c.respond-in-Run.result (λ r. IsReplyTo s c.args.bytes.now c.args.second.now (reply_of r))) (sym c.in-Run.is)
-        (subst (λ (n : List ℕ). IfOk c.respond-in-Run.result (λ r. IsRunReply n c.args.bytes.now c.args.second.now (reply_of r))) named c.respond-in-Run.ensures)
+    (subst (λ (n : List ℕ). IfOk c.respond-in-Run.result (λ r. IsRunReply n c.args.bytes.now c.args.second.now (reply_of r))) named c.respond-in-Run.ensures)
 
 pub returns-in-Certify : goal.returns-in-Certify
 returns-in-Certify c = subst (λ (s : Settings). IfOk c.respond-in-Certify.result (λ r. IsReplyTo s c.args.bytes.now c.args.second.now (reply_of r))) (sym c.in-Certify.is) c.respond-in-Certify.ensures
@@ -37,19 +37,19 @@ returns-in-Omega c =
     let first : c.as_bytes-first.result.now ≡ c.in-Omega.procedure = c.as_bytes-first.ensures.value ∙ c.as_str-in-Omega.ensures in
     let second : c.as_bytes.result.now ≡ c.in-Omega.name = c.as_bytes.ensures.value ∙ c.as_str-in-Omega-2.ensures in
     subst (λ (s : Settings). IfOk c.respond-in-Omega.result (λ r. IsReplyTo s c.args.bytes.now c.args.second.now (reply_of r))) (sym c.in-Omega.is)
-        (subst (λ (n : List ℕ). IfOk c.respond-in-Omega.result (λ r. IsOmegaReply n c.in-Omega.name c.args.bytes.now (reply_of r))) first
-        (subst (λ (n : List ℕ). IfOk c.respond-in-Omega.result (λ r. IsOmegaReply c.as_bytes-first.result.now n c.args.bytes.now (reply_of r))) second c.respond-in-Omega.ensures))
+    (subst (λ (n : List ℕ). IfOk c.respond-in-Omega.result (λ r. IsOmegaReply n c.in-Omega.name c.args.bytes.now (reply_of r))) first
+    (subst (λ (n : List ℕ). IfOk c.respond-in-Omega.result (λ r. IsOmegaReply c.as_bytes-first.result.now n c.args.bytes.now (reply_of r))) second c.respond-in-Omega.ensures))
 
 pub returns-in-Remainder : goal.returns-in-Remainder
 returns-in-Remainder c =
     let first : c.as_bytes-first-in-Remainder.result.now ≡ c.in-Remainder.procedure = c.as_bytes-first-in-Remainder.ensures.value ∙ c.as_str-in-Remainder.ensures in
     let second : c.as_bytes-in-Remainder.result.now ≡ c.in-Remainder.name = c.as_bytes-in-Remainder.ensures.value ∙ c.as_str-in-Remainder-2.ensures in
     subst (λ (s : Settings). IfOk c.respond-in-Remainder.result (λ r. IsReplyTo s c.args.bytes.now c.args.second.now (reply_of r))) (sym c.in-Remainder.is)
-        (subst (λ (n : List ℕ). IfOk c.respond-in-Remainder.result (λ r. IsRemainderReply n c.in-Remainder.name c.args.bytes.now (reply_of r))) first
-        (subst (λ (n : List ℕ). IfOk c.respond-in-Remainder.result (λ r. IsRemainderReply c.as_bytes-first-in-Remainder.result.now n c.args.bytes.now (reply_of r))) second c.respond-in-Remainder.ensures))
+    (subst (λ (n : List ℕ). IfOk c.respond-in-Remainder.result (λ r. IsRemainderReply n c.in-Remainder.name c.args.bytes.now (reply_of r))) first
+    (subst (λ (n : List ℕ). IfOk c.respond-in-Remainder.result (λ r. IsRemainderReply c.as_bytes-first-in-Remainder.result.now n c.args.bytes.now (reply_of r))) second c.respond-in-Remainder.ensures))
 
 pub returns-in-Refute : goal.returns-in-Refute
 returns-in-Refute c =
     let named : c.as_bytes-name-in-Refute.result.now ≡ c.in-Refute.procedure = c.as_bytes-name-in-Refute.ensures.value ∙ c.as_str-in-Refute.ensures in
     subst (λ (s : Settings). IfOk c.respond-in-Refute.result (λ r. IsReplyTo s c.args.bytes.now c.args.second.now (reply_of r))) (sym c.in-Refute.is)
-        (subst (λ (n : List ℕ). IfOk c.respond-in-Refute.result (λ r. IsRefuteReply n c.args.bytes.now c.args.second.now (reply_of r))) named c.respond-in-Refute.ensures)
+    (subst (λ (n : List ℕ). IfOk c.respond-in-Refute.result (λ r. IsRefuteReply n c.args.bytes.now c.args.second.now (reply_of r))) named c.respond-in-Refute.ensures)
