@@ -45,7 +45,7 @@ pub draw_calm : (w : Rational) (ps : Vec (Rational × T.Term) Global) (span : Sp
 draw_calm w ps span h e = subst IsCalm (sym (draw_act 0 ps span ∙ ap (λ l. Act.draw 0 (parts_of l) span) e)) (record { fit = ((h, (refl, ap (is_well_typed bools) (constant_cond true))), ((h, (refl, ap (is_well_typed bools) (constant_cond false))), tt)); calm = tt })
 
 pub toss_calm : (f : F.Form) (span : Span) → IsProbability bools (form_of f) → IsCalm (act_of (A.Toss 0 f span))
-toss_calm f span h = subst IsCalm (sym (toss_act 0 f span)) (record { fit = (refl, h); calm = tt })
+toss_calm f span h = subst IsCalm (sym (toss_act 0 f span)) (record { fit = (refl, (h.0, h.1.0)); calm = tt })
 
 pub validate_calm : (co : Bool) (span : Span) → IsCalm (act_of (A.Validate co span))
 validate_calm co span = subst IsCalm (sym (validate_act co span)) (record { fit = tt; calm = tt })

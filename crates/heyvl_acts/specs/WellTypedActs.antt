@@ -12,7 +12,11 @@ use Rattle.heyvl_acts.specs.Acts.{Act, Acts, Arms}
 abbrev pub IsHeld : Types → Form → Type 0
 IsHeld types f = IsFormula types f × (has_binder f ≡ false)
 
--- What a toss may hold: a UInt or UReal without a binder, and without a numeric variable outside conditions.
+-- What a toss is weighed by: a UInt or UReal without a binder.
+abbrev pub IsWeight : Types → Form → Type 0
+IsWeight types f = IsHeld types f × (is_finite_type (type_of types f) ≡ true)
+
+-- What a toss may hold by the rules of the language: without a numeric variable outside conditions besides.
 abbrev pub IsProbability : Types → Form → Type 0
 IsProbability types f = IsHeld types f × ((is_finite_type (type_of types f) ≡ true) × (has_variable f ≡ false))
 
@@ -31,7 +35,7 @@ abbrev mutual
   pub ActFits : Types → Act → Type 0
   ActFits types (Act.set x t span) = TermFits types (types x) t
   ActFits types (Act.draw x ps span) = DrawFits types x ps
-  ActFits types (Act.toss x f span) = (types x ≡ Ty.Bool) × IsProbability types f
+  ActFits types (Act.toss x f span) = (types x ≡ Ty.Bool) × IsWeight types f
   ActFits types (Act.any x up ty span) = types x ≡ ty
   ActFits types (Act.reward f span) = IsHeld types f
   ActFits types (Act.ifs arms e span) = ArmsFit types arms × ActsFit types e

@@ -19,7 +19,7 @@ use Rattle.heyvl_acts.specs.ModifiedVariables.{is_target_of, modified}
 use Rattle.heyvl_acts.specs.Places.{in_order, inside, inside_arms}
 use Rattle.heyvl_acts.specs.Rules.{ArgumentsFit, Each, GrowBelow, GuardsFit, IsOwn, MeetsRules, TargetsFit, widens_to}
 use Rattle.heyvl_acts.specs.Visible.{Scoped, ScopedAct, ScopedArms, Sees, SeesCond, SeesParts, SeesTerm, SeesTerms, Visible, interface, shown, shown_all, shown_by}
-use Rattle.heyvl_acts.specs.WellTypedActs.{ActsFit, ArmsFit, DrawFits, IsHeld, IsProbability, PartsFit}
+use Rattle.heyvl_acts.specs.WellTypedActs.{ActsFit, ArmsFit, DrawFits, IsHeld, IsProbability, IsWeight, PartsFit}
 use Rattle.k_induction.specs.Copies.{copies}
 use Rattle.loop_encodings.specs.Encoding.{all_variables, any_block, encoded, encoded_act, encoded_arms, encoded_loop, encoding, gets, havocs, read, sets, tested}
 use Rattle.loop_encodings.specs.Fresh.{fresh, fresh_of_act, fresh_of_arms}
@@ -91,8 +91,8 @@ term_on n v types types' ty (Term.number a) f b o h = (h.0, ap (λ t. fits t (nu
 held_on : (n : ℕ) (v : Visible) (types types' : Types) (a : Form) → Front n types types' → Bounded n v → Sees v a → IsHeld types' a → IsHeld types a
 held_on n v types types' a f b o h = (ap is_unsigned (same_types a types types' (λ y e. f y (b y (o y e)))) ∙ h.0, h.1)
 
-probability_on : (n : ℕ) (v : Visible) (types types' : Types) (a : Form) → Front n types types' → Bounded n v → Sees v a → IsProbability types' a → IsProbability types a
-probability_on n v types types' a f b o h = (held_on n v types types' a f b o h.0, (ap is_finite_type (same_types a types types' (λ y e. f y (b y (o y e)))) ∙ h.1.0, h.1.1))
+weight_on : (n : ℕ) (v : Visible) (types types' : Types) (a : Form) → Front n types types' → Bounded n v → Sees v a → IsProbability types' a → IsWeight types a
+weight_on n v types types' a f b o h = (held_on n v types types' a f b o h.0, ap is_finite_type (same_types a types types' (λ y e. f y (b y (o y e)))) ∙ h.1.0)
 
 cond_on : (n : ℕ) (v : Visible) (types types' : Types) (g : Cond) → Front n types types' → Bounded n v → SeesCond v g → is_well_typed types' g ≡ true → is_well_typed types g ≡ true
 cond_on n v types types' g f b o h = same_truth g types types' (λ y e. f y (b y (o y e))) ∙ h
@@ -204,7 +204,7 @@ module _ (ps : List TypedProcedure) (rules : (q : ℕ) → q < length ps → Mee
     fits_act : (a : Act) (v : Visible) → IsFine ps p a → Each (IsFine ps p) (inside a) → Bounded (length (variables p)) v → ScopedAct v a → (m : ℕ) → TypesFrom m (fresh_of_act ps a) types → ActsFit types (encoded_act ps p m a)
     fits_act (Act.set x t span) v f i b o m h = (subst (λ u. TermFits types u t) (sym (front x f.0.0.below)) (term_on (length (variables p)) v types (types_of p) (types_of p x) t front b o f.0.1), tt)
     fits_act (Act.draw x qs span) v f i b o m h = (draw_fits v x qs b f.0.0 f.0.1 o, tt)
-    fits_act (Act.toss x w span) v f i b o m h = ((front x f.0.0.below ∙ f.0.1.0, probability_on (length (variables p)) v types (types_of p) w front b o f.0.1.1), tt)
+    fits_act (Act.toss x w span) v f i b o m h = ((front x f.0.0.below ∙ f.0.1.0, weight_on (length (variables p)) v types (types_of p) w front b o f.0.1.1), tt)
     fits_act (Act.any x d ty span) v f i b o m h = (front x f.0.0.below ∙ f.0.1, tt)
     fits_act (Act.reward g span) v f i b o m h = (held_on (length (variables p)) v types (types_of p) g front b o f.0.1, tt)
     fits_act (Act.ifs arms e span) v f i b o m h = (

@@ -75,7 +75,7 @@ module _ (ps : List TypedProcedure) (p : TypedProcedure) where
       act_fits : (a : Act) → IsTurnAct ps p a → Each Good (inside a) → ActFits types a
       act_fits (Act.set x t span) h i = term_fits x t h.0.0.below h.1.1 h.1.0
       act_fits (Act.draw x qs span) h i = draw_fits x qs h.0.0.below h.1.1 h.1.0
-      act_fits (Act.toss x f span) h i = (agree x h.0.0.below ∙ h.1.0.0, ((formula f h.1.1 h.1.0.1.0.0, h.1.0.1.0.1), (ap is_finite_type (form_type f h.1.1) ∙ h.1.0.1.1.0, h.1.0.1.1.1)))
+      act_fits (Act.toss x f span) h i = (agree x h.0.0.below ∙ h.1.0.0, ((formula f h.1.1 h.1.0.1.0.0, h.1.0.1.0.1), ap is_finite_type (form_type f h.1.1) ∙ h.1.0.1.1.0))
       act_fits (Act.any x up ty span) h i = agree x h.0.0.below ∙ h.1.0
       act_fits (Act.reward f span) h i = absurd h.0
       act_fits (Act.ifs arms e span) h i = (arms_fit arms e span h.1.0 h.1.1 (each_first Good (inside_arms arms) (in_order e) i), acts_fit e (each_second Good (inside_arms arms) (in_order e) i))

@@ -49,7 +49,7 @@ module _ (ps : List TypedProcedure) (p : TypedProcedure) where
     next_fit : (a : Act) (rest : Acts) → IsTurnAct ps p a → Each (IsTurnAct ps p) (inside a) → ActsFit (types_of p) rest → ActsFit (types_of p) (upward_next a rest)
     next_fit (Act.set x t span) rest h i k = (h.0.1, k)
     next_fit (Act.draw x qs span) rest h i k = (h.0.1, k)
-    next_fit (Act.toss x f span) rest h i k = (h.0.1, k)
+    next_fit (Act.toss x f span) rest h i k = ((h.0.1.0, (h.0.1.1.0, h.0.1.1.1.0)), k)
     next_fit (Act.any x up ty span) rest h i k = (h.0.1, k)
     next_fit (Act.reward f span) rest h i k = k
     next_fit (Act.ifs arms e span) rest h i k = ((arms_fit arms h.0.1 (each_first (IsTurnAct ps p) (inside_arms arms) (in_order e) i), upward_fit e (each_second (IsTurnAct ps p) (inside_arms arms) (in_order e) i)), k)

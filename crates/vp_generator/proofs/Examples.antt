@@ -1,5 +1,6 @@
 -- Rows worked by hand: what each act gives, acts that put a term into what another one gives, and numbers of binders.
-use Rattle.std.proofs.Common.{◌≡◌, ℕ, refl, true, false, [], ◌∷◌, Bool}
+use Rattle.std.proofs.Common.{◌≡◌, ℕ, refl, sym, true, false, [], ◌∷◌, Bool}
+use Rattle.std.proofs.lemmas.Bool.{false≢true}
 use Rattle.std.specs.Prelude.{pos, Option, Some, None, ℤ}
 use Rattle.heyvl_num.specs.Gcd.{gcd, gcd_steps}
 use Rattle.heyvl_num.specs.Rational.{Rational, ratio, zeroʳ, oneʳ, ◌+ʳ◌, ◌-ʳ◌, ◌*ʳ◌, negʳ, leqʳ}
@@ -13,10 +14,12 @@ use Rattle.heylo_formula.specs.Choices.{Choices}
 use Rattle.heylo_formula.specs.Formula.{Form, Cond, Term}
 use Rattle.heylo_formula.specs.Meaning.{value}
 use Rattle.heylo_formula.specs.Sizes.{nodes, depth}
+use Rattle.heylo_formula.specs.Typing.{Types, types_in}
 use Rattle.heylo_formula.specs.Substitution as Replaced
 use Rattle.heylo_formula.specs.declared.types.Ty.{Ty}
 use Rattle.heylo_formula.specs.declared.values.Val.TheVariants.{Truth}
 use Rattle.heyvl_acts.specs.Acts.{Act, Acts, Arms}
+use Rattle.heyvl_acts.specs.WellTypedActs.{ActFits, IsProbability}
 use Rattle.vp_generator.specs.GeneratedForms.{vp}
 use Rattle.vp_generator.specs.PrenexedForms.{prenexed}
 
@@ -85,6 +88,17 @@ tossed a b t = parts (value (vp (one (Act.toss 0 (by_flag a b) nowhere)) (by_fla
 toss_values : (tossed (Form.number (finite (ratio (pos 1) 3))) (whole 2) true ≡ Some (pos 3, 1)) × (tossed (Form.number (finite (ratio (pos 1) 3))) (whole 2) false ≡ Some (pos 1, 1)) × (tossed (whole 1) (whole 0) true ≡ Some (pos 1, 1)) × (tossed (whole 1) (whole 0) false ≡ Some (pos 4, 1))
 unfolding tossed Replaced.subst ratio gcd gcd_steps ◌+ʳ◌ ◌-ʳ◌ ◌*ʳ◌ negʳ leqʳ leqᵛ minᵛ monusᵛ ◌+ᵛ◌ ◌*ᵛ◌ infinite_times is_zeroʳ zeroʳ oneʳ zeroᵛ oneᵛ
 toss_values = (refl, refl, refl, refl)
+
+-- The laws of the generated form ask no more of a weight than its type: a variable of type UReal weighs a toss, though the language's
+-- rules refuse it.
+abbrev numbers_behind : Types
+numbers_behind = types_in (Ty.Bool ∷ Ty.UReal ∷ [])
+
+variable_weighs : ActFits numbers_behind (Act.toss 0 (Form.variable 1) nowhere)
+variable_weighs = (refl, ((refl, refl), refl))
+
+no_probability : IsProbability numbers_behind (Form.variable 1) → ⊥
+no_probability h = false≢true (sym h.1.1)
 
 -- Each side has binders of its own.
 toss_binders : binders (vp (both (Act.toss 0 (Form.iverson (Cond.flag 2)) nowhere) (Act.any 1 true Ty.Bool nowhere)) same_values) ≡ (1, Ty.Bool) ∷ (1, Ty.Bool) ∷ []

@@ -72,7 +72,7 @@ mutual
   act_type types (Act.set x t span) k h f = subst_formula types x t k h f
   act_type types (Act.draw x [] span) k h f = absurd h
   act_type types (Act.draw x (p ∷ ps) span) k h f = parts_type types x ps k (part_form x p k) h.1 f (part_type types x p k h.0.0 h.0.1 f)
-  act_type types (Act.toss x g span) k h f = joins _ _ (joins _ _ (joins _ _ h.1.0.0 (ap is_unsigned (one_type types))) (subst_formula types x (Term.truth (Cond.constant true)) k (h.0, refl) f)) (joins _ _ (subst (λ u. is_unsigned (cut_type (joined u (joined (type_of types g) u))) ≡ true) (sym (one_type types)) (rest_type (type_of types g) h.1.0.0 h.1.1.0)) (subst_formula types x (Term.truth (Cond.constant false)) k (h.0, refl) f))
+  act_type types (Act.toss x g span) k h f = joins _ _ (joins _ _ (joins _ _ h.1.0.0 (ap is_unsigned (one_type types))) (subst_formula types x (Term.truth (Cond.constant true)) k (h.0, refl) f)) (joins _ _ (subst (λ u. is_unsigned (cut_type (joined u (joined (type_of types g) u))) ≡ true) (sym (one_type types)) (rest_type (type_of types g) h.1.0.0 h.1.1)) (subst_formula types x (Term.truth (Cond.constant false)) k (h.0, refl) f))
   act_type types (Act.any x up ty span) k h f = only _ _ (subst (λ m. is_unsigned (type_of m k) ≡ true) (sym (retyped_same x ty types h)) f) refl
   act_type types (Act.reward r span) k h f = joins _ _ f h.0
   act_type types (Act.ifs arms e span) k h f = arms_type types arms k (vp e k) h.0 f (acts_type types e k h.1 f)

@@ -3,7 +3,7 @@ use Rattle.heylo_formula.specs.Formula.{Form, Term}
 use Rattle.heylo_formula.specs.Typing.{TermFits}
 use Rattle.heylo_formula.specs.declared.types.Ty.{Ty}
 use Rattle.heyvl_acts.specs.Acts.{Act, Arms}
-use Rattle.heyvl_acts.specs.WellTypedActs.{IsProbability, PartsFit, DrawFits, ActFits, ArmsFit}
+use Rattle.heyvl_acts.specs.WellTypedActs.{IsWeight, PartsFit, DrawFits, ActFits, ArmsFit}
 use Rattle.heyvl_num.specs.Rational.{Rational}
 use Rattle.std.specs.Prelude.{◌≡◌, ℕ, List}
 use Rattle.vp_generator.specs.Fit.{Fit}
@@ -23,7 +23,7 @@ PartsAreFit x ps post = Fit (λ types. PartsFit types x ps) post
 
 -- A toss, and its variable.
 abbrev pub TossIsFit : ℕ → Form → Form → Type 0
-TossIsFit x f post = Fit (λ types. (types x ≡ Ty.Bool) × IsProbability types f) post
+TossIsFit x f post = Fit (λ types. (types x ≡ Ty.Bool) × IsWeight types f) post
 
 abbrev pub FlagIsFit : ℕ → Form → Type 0
 FlagIsFit x post = Fit (λ types. types x ≡ Ty.Bool) post
