@@ -36,11 +36,3 @@ pub record IsCell (g : Goal) (ps : List Taken) : Type 0 where
   pub kept : IsKeptPath g ps
   pub ends : Ends
   pub at_end : end_at g ps ≡ Query.done ends
-
--- A cell that isn't plain and whose rows, with the denied goal among them, are solvable.
-pub record IsFalseCell (g : Goal) (ps : List Taken) : Type 0 where
-  pub cell : IsCell g ps
-  pub not_plain : IsPlainAt g ps → ⊥
-  pub rows : List Row
-  pub are_rows : rows_of g ps true ≡ Some rows
-  pub solvable : IsSolvable rows

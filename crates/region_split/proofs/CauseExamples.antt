@@ -311,7 +311,7 @@ coin_has_no_cause = none_where_refuted coin coin_ends coin_asks_nothing coin_row
 
 -- 0 >= 1 has one cell.
 one_cell_reached : HasCells false_goal 1
-one_cell_reached = record { path = []; before = []; are_before = AreBefore.start; cell = false_cell.cell; counted = refl }
+one_cell_reached = record { path = []; before = []; are_before = AreBefore.start; cell = false_cell; counted = refl }
 
 -- It does not have two.
 no_second_cell : HasCells false_goal 2 → ⊥

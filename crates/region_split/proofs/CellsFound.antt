@@ -7,12 +7,13 @@ use Rattle.heylo_formula.specs.Goals.{Goal}
 use Rattle.heylo_formula.specs.declared.values.Val.{Val}
 use Rattle.linear_form.specs.Query.{Taken}
 use Rattle.linear_form.specs.PathRows.{IsPlainAt}
-use Rattle.linear_form.specs.Cells.{IsCell, IsFalseCell}
+use Rattle.linear_form.specs.Cells.{IsCell}
 use Rattle.linear_elim.specs.Answers.{ends_of}
 use Rattle.goal_answers.specs.declared.causes.Broken.{Broken}
 use Rattle.region_split.specs.Decisions.{IsFirstPoint, IsFirstBreak}
 use Rattle.region_split.specs.PathPoints.{with_truths, IsPointOf, IsBreakOf, Breaks}
-use Rattle.region_split.specs.Pieces.{AreEnds, EndsOf, HasFirstPoint, IsFalse}
+use Rattle.region_split.specs.Pieces.{AreEnds, EndsOf, HasFirstPoint}
+use Rattle.region_split.specs.Walk.{IsFalse}
 use Rattle.region_split.specs.internal.PathFindings.{IsPointAt, IsBreakAt, IsMetAt}
 use Rattle.region_split.specs.internal.Progress.{HoldsAt, IsBroken, IsFound}
 use Rattle.region_split.specs.declared.findings.Found.{Found}
@@ -23,8 +24,8 @@ use Rattle.region_split.specs.declared.findings.Found.TheVariants.{Nothing, Brea
 pub point_is_false : (g : Goal) (ps : List Taken) (point : List Val) → (IsPlainAt g ps → ⊥) → IsPointAt g ps true point → IsFalse g ps
 point_is_false g ps point n p = record { not_plain = n; rows = p.rows; are_rows = p.are_rows; solvable = p.solvable }
 
-pub met_is_false : (g : Goal) (ps : List Taken) → IsCell g ps → (IsPlainAt g ps → ⊥) → IsMetAt g ps true → IsFalseCell g ps
-met_is_false g ps c n p = record { cell = c; not_plain = n; rows = p.rows; are_rows = p.are_rows; solvable = p.solvable }
+pub met_is_false : (g : Goal) (ps : List Taken) → (IsPlainAt g ps → ⊥) → IsMetAt g ps true → IsFalse g ps
+met_is_false g ps n p = record { not_plain = n; rows = p.rows; are_rows = p.are_rows; solvable = p.solvable }
 
 pub break_is_false : (g : Goal) (ps : List Taken) (b : Broken) → (IsPlainAt g ps → ⊥) → IsBreakAt g ps true b → IsFalse g ps
 break_is_false g ps b n p = record { not_plain = n; rows = p.rows; are_rows = p.are_rows; solvable = p.broken.solvable }

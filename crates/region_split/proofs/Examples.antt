@@ -22,16 +22,16 @@ use Rattle.linear_rows.specs.Solutions.{sum_of, MeetsAt, IsSolvable}
 use Rattle.linear_values.specs.Tightening.{tightened}
 use Rattle.linear_rows.specs.VariableOrder.{order_of}
 use Rattle.linear_rows.specs.GreedyPoint.{Chooses}
-use Rattle.linear_form.specs.Cells.{IsKeptPath, IsFront, IsFalseCell}
+use Rattle.linear_form.specs.Cells.{IsCell, IsKeptPath, IsFront}
 use Rattle.goal_answers.specs.Trees.{Tree, depth}
 use Rattle.goal_answers.specs.declared.decisions.Decision.TheVariants.{Proved}
 use Rattle.goal_answers.specs.declared.trees.Tree as T
 use Rattle.linear_form.specs.Nonlinear.{nonlinear_product}
 use Rattle.region_split.proofs.Leaves.{plain_tree}
-use Rattle.region_split.specs.Walk.{AreCells, AreBefore, IsReached, IsSettled}
+use Rattle.region_split.specs.Walk.{AreBefore, AreCells, IsFalse, IsReached, IsSettled}
 use Rattle.region_split.specs.WalkTree.{IsWalkTree}
 use Rattle.region_split.specs.PathPoints.{IsPointOf}
-use Rattle.region_split.specs.Pieces.{EndsOf, HasFirstPoint, IsFalse}
+use Rattle.region_split.specs.Pieces.{EndsOf, HasFirstPoint}
 use Rattle.region_split.specs.DecisionLaws.{IsOfLimits}
 use Rattle.region_split.specs.Decisions.{IsDecision, IsFalsified}
 
@@ -99,8 +99,8 @@ not_plain p = go p.ends (sym false_end ∙ p.at_end) p.plain
     go : (e : Ends) → done (zero, one) ≡ done e → denial true e ≡ None → ⊥
     go e h k = let i : (zero, one) ≡ e = cc in let j = rw (← i) at k in absurd (cc)
 
-pub false_cell : IsFalseCell false_goal []
-false_cell = record { cell = record { front = IsFront.start; kept = false_kept; ends = (zero, one); at_end = false_end }; not_plain = not_plain; rows = below_zero ∷ []; are_rows = denied_row; solvable = denied_solvable }
+pub false_cell : IsCell false_goal []
+false_cell = record { front = IsFront.start; kept = false_kept; ends = (zero, one); at_end = false_end }
 
 false_piece : IsFalse false_goal []
 false_piece = record { not_plain = not_plain; rows = below_zero ∷ []; are_rows = denied_row; solvable = denied_solvable }
@@ -113,6 +113,6 @@ false_point = record { rows = below_zero ∷ []; are_rows = denied_row; values =
 pub falsified : IsFalsified false_goal []
 falsified = record {
   cells = [] ∷ [];
-  walked = record { are_cells = AreCells.end [] (zero, one) false_kept false_end (IsSettled.falsified false_cell); few = omega arith };
-  first = record { before = []; cell = []; after = []; whole = refl; ends = []; are_ends = EndsOf.start; broken = All-nil _; is_cell = false_cell.cell; gives = HasFirstPoint.whole 0 [] [] false_piece false_point };
+  walked = record { are_cells = AreCells.end [] (zero, one) false_kept false_end (IsSettled.falsified false_cell false_piece); few = omega arith };
+  first = record { before = []; cell = []; after = []; whole = refl; ends = []; are_ends = EndsOf.start; broken = All-nil _; is_cell = false_cell; gives = HasFirstPoint.whole 0 [] [] false_piece false_point };
 }

@@ -30,7 +30,8 @@ use Rattle.linear_form.proofs.exported.Truths.{truths_booleans, truths_variables
 use Rattle.linear_form.proofs.exported.UnsignedRows.{unsigned_nonnegative}
 use Rattle.region_split.specs.Decisions.{IsFalsified}
 use Rattle.region_split.specs.PathPoints.{value_on, with_truths, IsPointOf}
-use Rattle.region_split.specs.Pieces.{HasFirstPoint, IsFalse, first_half, second_half}
+use Rattle.region_split.specs.Pieces.{HasFirstPoint, first_half, second_half}
+use Rattle.region_split.specs.Walk.{IsFalse}
 use Rattle.region_split.specs.Meanings.{Fails}
 use Rattle.region_split.proofs.CellOrder.{front_path}
 use Rattle.region_split.proofs.HalvedPaths.{end_past, half_path}

@@ -12,7 +12,7 @@ use Rattle.linear_form.specs.Questions.{Ends}
 use Rattle.linear_form.specs.Paths.{end_at}
 use Rattle.linear_form.specs.PathRows.{IsPlainAt, denial, denial_at}
 use Rattle.linear_form.specs.PlainPaths.{path_of}
-use Rattle.linear_form.specs.Cells.{GoesOn, IsCell, IsFalseCell}
+use Rattle.linear_form.specs.Cells.{GoesOn, IsCell}
 use Rattle.linear_form.specs.Splits.{split_at}
 use Rattle.linear_rows.proofs.exported.Combinations.{contradiction_unsolvable}
 use Rattle.goal_answers.specs.Trees.{Tree, tree_of, tree_layer, depth}
@@ -20,11 +20,11 @@ use Rattle.farkas_check.specs.AcceptedCertificates.{IsRefutedWith, has_denied}
 use Rattle.goal_answers.specs.declared.trees.Tree as T
 use Rattle.goal_answers.specs.declared.trees.Tree.TheOpen.{Tree-F}
 use Rattle.goal_answers.specs.declared.trees.Tree.TheFolds.{fold-roll-Tree}
-use Rattle.region_split.specs.Walk.{AreCells, IsRefutedCell, IsSettled}
+use Rattle.region_split.specs.Walk.{AreCells, IsFalse, IsRefutedCell, IsSettled}
 use Rattle.goal_answers.specs.declared.causes.Broken.{Broken}
 use Rattle.heylo_formula.specs.declared.values.Val.{Val}
 use Rattle.region_split.specs.PathPoints.{Breaks}
-use Rattle.region_split.specs.Pieces.{AreEnds, HasFirstPoint, IsFalse, IsSplitAt, first_half, second_half}
+use Rattle.region_split.specs.Pieces.{AreEnds, HasFirstPoint, IsSplitAt, first_half, second_half}
 use Rattle.region_split.specs.WalkTree.{IsPieceTree, IsWalkTree}
 use Rattle.region_split.specs.internal.PathFindings.{IsEnd}
 use Rattle.region_split.specs.internal.Trails.{StandsAt, IsDroppedBy}
@@ -148,14 +148,11 @@ closed_leaf g n ps e ms t l h k r = record {
   grown = piece_leaf g n ps ms t l (IsPieceTree.refuted n ps ms.items (subst (λ b. IsRefutedWith g ps b ms.items) (sym (denied_there g ps e h k)) r));
 }
 
-false_cell : (g : Goal) (ps : List Taken) → IsCell g ps → IsFalse g ps → IsFalseCell g ps
-false_cell g ps c f = record { cell = c; not_plain = f.not_plain; rows = f.rows; are_rows = f.are_rows; solvable = f.solvable }
-
 settled_by_ends : (g : Goal) (n : ℕ) (ps : List Taken) (es : List (List Taken)) → IsCell g ps → AreEnds g n ps es → IsSettled g ps
 settled_by_ends g _ _ _ c (AreEnds.refuted n ps r) = IsSettled.refuted r
-settled_by_ends g _ _ _ c (AreEnds.whole n ps p f a) = IsSettled.falsified (false_cell g ps c f)
-settled_by_ends g _ _ _ c (AreEnds.deepest n ps l f b) = IsSettled.falsified (false_cell g ps c f)
-settled_by_ends g _ _ _ c (AreEnds.halves n ps x m es fs s a b) = IsSettled.falsified (false_cell g ps c s.false_piece)
+settled_by_ends g _ _ _ c (AreEnds.whole n ps p f a) = IsSettled.falsified c f
+settled_by_ends g _ _ _ c (AreEnds.deepest n ps l f b) = IsSettled.falsified c f
+settled_by_ends g _ _ _ c (AreEnds.halves n ps x m es fs s a b) = IsSettled.falsified c s.false_piece
 
 cell_branch : (g : Goal) (ps : List Taken) (c : IsCell g ps) (tree : Option T.Tree) → IsSettled g ps → (HoldsAt g ps → IsGrown g ps tree) → IsBranch g ps (ps ∷ []) tree
 cell_branch g ps c tree s h = record { are_cells = AreCells.end ps c.ends c.kept c.at_end s; grown = λ a. h (All-head (HoldsAt g) ps [] a) }
@@ -180,11 +177,11 @@ point_or_holds g ps p a (inl h) = (point_false g 0 ps p a).not_plain h
 point_or_holds g ps p a (inr e) = point_not_broken g 0 ps p [] a e (All-nil (Breaks g))
 
 pub given_branch : (g : Goal) (ps : List Taken) (p : List Val) → IsCell g ps → HasFirstPoint g 0 ps p → IsBranch g ps (ps ∷ []) None
-given_branch g ps p c a = cell_branch g ps c None (IsSettled.falsified (false_cell g ps c (point_false g 0 ps p a))) (λ h. absurd (point_or_holds g ps p a h))
+given_branch g ps p c a = cell_branch g ps c None (IsSettled.falsified c (point_false g 0 ps p a)) (λ h. absurd (point_or_holds g ps p a h))
 
 -- a false cell behind a point
-pub further_branch : (g : Goal) (ps : List Taken) → IsFalseCell g ps → HasFalsePoint g → IsBranch g ps (ps ∷ []) None
-further_branch g ps f h = cell_branch g ps f.cell None (IsSettled.falsified f) (λ _. inr h)
+pub further_branch : (g : Goal) (ps : List Taken) → IsCell g ps → IsFalse g ps → HasFalsePoint g → IsBranch g ps (ps ∷ []) None
+further_branch g ps c f h = cell_branch g ps c None (IsSettled.falsified c f) (λ _. inr h)
 
 -- ---- Finished branches of a walk
 

@@ -276,7 +276,7 @@ pub refuted_cell : (g : Goal) (ps : List Taken) (point : Vec Val Global) (e : En
 refuted_cell g ps point e ms tree n l t c h k r = closed_cell g ps (Found.Point point) tree c (closed_leaf g 0 ps e ms tree (subst (λ i. IsLeaf i (F.Farkas ms) tree) l t) h k r)
 
 pub further_cell : (g : Goal) (ps : List Taken) (point : Vec Val Global) → IsCell g ps → (IsPlainAt g ps → ⊥) → IsMetAt g ps true → IsJudgedCell g ps (Found.Point point) (Found.Point point) None
-further_cell g ps point c k p = record { branch = λ h. further_branch g ps (met_is_false g ps c k p) h; shown = λ cells j. point_longer g cells ps point.items j }
+further_cell g ps point c k p = record { branch = λ h. further_branch g ps c (met_is_false g ps k p) h; shown = λ cells j. point_longer g cells ps point.items j }
 
 -- a walk knows where a point was found
 knows_point : (g : Goal) (ps : List Taken) (w : Walk) → HasCome g ps w → KnowsPoint g w.found

@@ -15,8 +15,8 @@ use Rattle.linear_rows.specs.Solutions.{IsSolvable}
 use Rattle.region_split.proofs.WalkMoves.{all_first, all_second}
 use Rattle.region_split.proofs.PathAnswers.{same_rows}
 use Rattle.region_split.specs.PathPoints.{Breaks, IsPointOf, with_truths}
-use Rattle.region_split.specs.Pieces.{AreEnds, BreaksAbove, HasFirstPoint, IsFalse, IsSplitAt, first_half, second_half}
-use Rattle.region_split.specs.Walk.{IsRefutedCell}
+use Rattle.region_split.specs.Pieces.{AreEnds, BreaksAbove, HasFirstPoint, IsSplitAt, first_half, second_half}
+use Rattle.region_split.specs.Walk.{IsFalse, IsRefutedCell}
 
 -- ---- What the rows of a piece come to is one thing
 

@@ -18,8 +18,8 @@ use Rattle.linear_form.specs.Cells.{IsDropped, IsKeptPath, GoesOn}
 use Rattle.linear_rows.proofs.exported.Combinations.{contradiction_unsolvable}
 use Rattle.goal_answers.specs.Trees.{Tree, depth}
 use Rattle.farkas_check.specs.AcceptedCertificates.{IsRefuted, has_denied}
-use Rattle.region_split.specs.Walk.{AreCells, AreBefore}
-use Rattle.region_split.specs.Pieces.{AreEnds, IsFalse, first_half, second_half}
+use Rattle.region_split.specs.Walk.{AreBefore, AreCells, IsFalse}
+use Rattle.region_split.specs.Pieces.{AreEnds, first_half, second_half}
 use Rattle.region_split.specs.WalkTree.{IsPieceTree, IsWalkTree}
 use Rattle.region_split.specs.internal.Progress.{HoldsAt}
 use Rattle.region_split.proofs.HalvedPaths.{end_past, plain_before}

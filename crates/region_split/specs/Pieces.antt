@@ -16,15 +16,8 @@ use Rattle.linear_form.specs.PathRows.{rows_of, IsPlainAt}
 use Rattle.linear_form.specs.Query.{Taken, onto}
 use Rattle.linear_form.specs.Splits.{split_at}
 use Rattle.region_split.specs.PathPoints.{IsPointOf, Breaks}
-use Rattle.region_split.specs.Walk.{IsRefutedCell}
+use Rattle.region_split.specs.Walk.{IsFalse, IsRefutedCell}
 use Rattle.std.specs.List.{All}
-
--- The goal doesn't hold plainly at the path, and some fractions meet its rows with the denied goal.
-pub record IsFalse (g : Goal) (ps : List Taken) : Type 0 where
-  pub not_plain : IsPlainAt g ps → ⊥
-  pub rows : List Row
-  pub are_rows : rows_of g ps true ≡ Some rows
-  pub solvable : IsSolvable rows
 
 -- The path's rows with the denied goal are solvable, their greedy choice breaks at the variable x, and m is the greatest whole number that
 -- isn't above the low end of its interval.

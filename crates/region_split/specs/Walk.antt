@@ -9,7 +9,7 @@ use Rattle.linear_form.specs.Query.Query.{done}
 use Rattle.linear_form.specs.Questions.{Ends}
 use Rattle.linear_form.specs.Paths.{end_at}
 use Rattle.linear_form.specs.PathRows.{rows_of, IsPlainAt}
-use Rattle.linear_form.specs.Cells.{IsDropped, IsKeptPath, GoesOn, IsFalseCell}
+use Rattle.linear_form.specs.Cells.{IsCell, IsDropped, IsKeptPath, GoesOn}
 use Rattle.farkas_check.specs.AcceptedCertificates.{has_denied}
 
 -- The rows of which a certificate speaks at the path can be stated: with the denied goal among them at an end at which the goal
@@ -24,11 +24,18 @@ pub record IsRefutedCell (g : Goal) (ps : List Taken) : Type 0 where
   pub are_rows : rows_of g ps true ≡ Some rows
   pub unsolvable : IsSolvable rows → ⊥
 
+-- The goal doesn't hold plainly at the path, and some fractions meet its rows with the denied goal.
+pub record IsFalse (g : Goal) (ps : List Taken) : Type 0 where
+  pub not_plain : IsPlainAt g ps → ⊥
+  pub rows : List Row
+  pub are_rows : rows_of g ps true ≡ Some rows
+  pub solvable : IsSolvable rows
+
 -- What a cell comes to: the goal holds there plainly, or its denial is refuted, or the cell is false.
 pub data IsSettled (g : Goal) (ps : List Taken) : Type 0 where
   plain : IsPlainAt g ps → IsSettled g ps
   refuted : IsRefutedCell g ps → IsSettled g ps
-  falsified : IsFalseCell g ps → IsSettled g ps
+  falsified : IsCell g ps → IsFalse g ps → IsSettled g ps
 
 -- The cells that begin with a path, in order, where the walk gets past each front there: none where the path is dropped, the path
 -- itself at an end, else those of the two branches. It gets past a dropped front whose rows can be stated, and past a cell that
