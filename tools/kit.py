@@ -199,19 +199,36 @@ def sum_of_library(name):
     return found.hexdigest()
 
 
+def state_of_library(name):
+    """Returns a sum of the names, sizes and times of the library's files, which costs less than the sum of what they hold."""
+    top, found = folder_of(name, "out", "rlib", name + ".rlib"), hashlib.sha256()
+    for at, folders, files in os.walk(top):
+        folders.sort()
+        for file in sorted(files):
+            it = os.lstat(os.path.join(at, file))
+            found.update(repr((os.path.relpath(os.path.join(at, file), top), it.st_size, it.st_mtime_ns)).encode())
+    return found.hexdigest()
+
+
 def note_sum(name):
-    """Writes the sum of the crate's library beside it, where the next build looks whether it is still the same."""
+    """Writes the sum and the state of the crate's library beside it, where the next build looks whether it is still the same."""
     with open(folder_of(name, "out", "rlib", "sum"), "w", encoding="utf-8") as file:
-        file.write(sum_of_library(name) or "")
+        file.write("%s %s" % (sum_of_library(name), state_of_library(name)))
 
 
 def is_tampered(name):
     """Returns whether the crate's library has changed since it was built. One that the kit's own commands built has no sum yet."""
     try:
         with open(folder_of(name, "out", "rlib", "sum"), encoding="utf-8") as file:
-            return file.read() != sum_of_library(name)
+            noted = file.read().split()
     except OSError:
         return False
+    if noted[1:] == [state_of_library(name)]:
+        return False
+    if noted[:1] != [str(sum_of_library(name))]:
+        return True
+    note_sum(name)
+    return False
 
 
 def size_of(folder):
