@@ -121,7 +121,7 @@ def resolved(expression, known):
 
 def variables_of(part):
     """Returns the names of the variables in a node, a list or a dictionary of nodes."""
-    if isinstance(part, heyvl.Node) and part[0] == "variable":
+    if isinstance(part, tuple) and part[:1] == ("variable",):
         return {part[1]}
     parts = part.values() if isinstance(part, dict) else part if isinstance(part, (tuple, list)) else ()
     return {name for inner in parts for name in variables_of(inner)}

@@ -1,23 +1,22 @@
-"""Expressions of HeyVL: their values in a state, their texts and their variables. Infinity is the float `INFINITY`."""
+"""Expressions of HeyVL: their values in a state and their texts. Infinity is the float `INFINITY`."""
+import functools
 import operator
 from fractions import Fraction
 
-from smtlib import join
+from expressions import LEVELS, type_of
 
 INFINITY = float("inf")
 COMPARISONS = {"==": operator.eq, "!=": operator.ne, "<": operator.lt, "<=": operator.le, ">": operator.gt,
                ">=": operator.ge}
-LEVELS = {"==>": 1, "<==": 1, "\\cup": 2, "\\cap": 3, "||": 4, "&&": 5, **dict.fromkeys(COMPARISONS, 6), "+": 7, "-": 7,
-          "*": 8, "/": 8}
-CONDITIONS = {"!": operator.not_, "&&": lambda a, b: a and b, "||": lambda a, b: a or b, "==>": lambda a, b: not a or b}
-BOUNDS = {
-    "[": int, "?": lambda a: INFINITY if a else 0, "!": lambda a: 0 if a else INFINITY, "negative": operator.neg,
-    "~": lambda a: 0 if a == INFINITY else INFINITY, "==>": lambda a, b: INFINITY if a <= b else b,
-    "<==": lambda a, b: 0 if a >= b else b, "\\cap": min, "\\cup": max, "+": operator.add,
-    "-": lambda a, b: max(a - b, 0), "*": lambda a, b: a * b if a and b else 0,
+CONDITIONS = {"!": operator.not_, "==>": lambda a, b: not a or b}
+OPERATORS = {
+    **COMPARISONS, "&&": lambda a, b: a and b, "||": lambda a, b: a or b, "[": int, "negative": operator.neg,
+    "?": lambda a: INFINITY if a else 0, "!": lambda a: 0 if a else INFINITY, "~": lambda a: 0 if a == INFINITY else
+    INFINITY, "==>": lambda a, b: INFINITY if a <= b else b, "<==": lambda a, b: 0 if a >= b else b, "\\cap": min,
+    "\\cup": max, "+": operator.add, "-": lambda a, b: max(a - b, 0), "*": lambda a, b: a * b if a and b else 0,
     "/": lambda a, b: a if a == INFINITY else Fraction(a) / b,
 }
-TYPES = {"[": "UInt", "?": "EUReal", "negative": "Int", "~": "EUReal", "!": "EUReal", "==>": "EUReal", "<==": "EUReal"}
+MINUS, PREFIX = {"negative": "-"}, LEVELS["negative"]
 
 
 class Failed(Exception):
@@ -36,30 +35,34 @@ def variable(name):
     return ("variable", name)
 
 
+def joined(mark, parts):
+    """Expressions joined by an operator."""
+    return functools.reduce(lambda a, b: (mark, a, b), parts)
+
+
 def compiled(expression, types):
-    """The type of an expression over typed variables, and the function that gives its value in a state."""
+    """The function that gives the value of an expression over typed variables in a state."""
     kind, *parts = expression
     if kind == "variable":
-        return types[parts[0]], operator.itemgetter(parts[0])
+        return operator.itemgetter(parts[0])
     if kind in ("number", "truth", "infinity"):
         value = INFINITY if kind == "infinity" else parts[0]
         value = int(value) if kind == "number" and value.denominator == 1 else value
-        return {"truth": "Bool", "infinity": "EUReal"}.get(kind) or parts[1], lambda state: value
+        return lambda state: value
     if kind == "bind":
         raise Failed("a quantifier")
-    kinds, functions = zip(*(compiled(part, types) for part in parts))
+    functions = [compiled(part, types) for part in parts]
     if kind == "ite":
         test, yes, no = functions
-        return join(*kinds[1:]), lambda state: yes(state) if test(state) else no(state)
-    first, last = functions[0], functions[-1]
-    if kind in COMPARISONS or kinds[0] == "Bool" and kind in CONDITIONS:
-        type_name, function = "Bool", COMPARISONS.get(kind) or CONDITIONS[kind]
-    else:
-        type_name = TYPES.get(kind) or join(kinds[0], "UReal" if kind == "/" else kinds[-1])
-        function = operator.sub if (kind, type_name) == ("-", "Int") else BOUNDS[kind]
+        return lambda state: yes(state) if test(state) else no(state)
+    function, first, last = OPERATORS[kind], functions[0], functions[-1]
+    if kind in CONDITIONS and type_of(parts[0], types) == "Bool":
+        function = CONDITIONS[kind]
+    elif kind == "-" and type_of(expression, types) == "Int":
+        function = operator.sub
     if len(functions) == 1:
-        return type_name, lambda state: function(first(state))
-    return type_name, lambda state: function(first(state), last(state))
+        return lambda state: function(first(state))
+    return lambda state: function(first(state), last(state))
 
 
 def shown(expression, level=0):
@@ -76,9 +79,9 @@ def shown(expression, level=0):
         return f"[{shown(parts[0])}]"
     if kind in ("?", "ite"):
         return f"{kind}({', '.join(map(shown, parts))})"
-    if kind in ("negative", "!", "~"):
-        return ("-" if kind == "negative" else kind) + shown(parts[0], 9)
     at = LEVELS[kind]
+    if at == PREFIX:
+        return MINUS.get(kind, kind) + shown(parts[0], at)
     left, right = (at + 1, at) if at == 1 else (at + (at == 6), at + 1)
     space = "" if at == 8 else " "
     text = f"{shown(parts[0], left)}{space}{kind}{space}{shown(parts[1], right)}"
@@ -93,23 +96,8 @@ def parts_of(expression):
             yield from parts_of(part)
 
 
-def names_of(tree):
-    """The variables that expressions in a tree of statements or expressions mention."""
-    if isinstance(tree, tuple) and tree[:1] == ("variable",):
-        return {tree[1]}
-    parts = tree.values() if isinstance(tree, dict) else tree if isinstance(tree, (tuple, list)) else ()
-    return set().union(*map(names_of, parts))
-
-
 def renamed(expression, names):
     """An expression with other names for some of its variables."""
     if expression[0] == "variable":
         return variable(names.get(expression[1], expression[1]))
     return tuple(renamed(part, names) if isinstance(part, tuple) else part for part in expression)
-
-
-def leaves_of(condition):
-    """The conditions that a condition joins."""
-    if condition[0] in ("&&", "||", "!", "["):
-        return [leaf for part in condition[1:] for leaf in leaves_of(part)]
-    return [condition]

@@ -1,11 +1,11 @@
 """A procedure as functions of a state. The value of a state is a linear expression in unknown coefficients: a
 dictionary of factors by column, with the constant under CONSTANT, or None for infinity. Schedulers choose what is best
 for them under the present coefficients."""
-import functools
 from fractions import Fraction
 
 import goals
-from invariants.expressions import INFINITY, Failed, compiled, names_of, number, variable
+from expressions import variables_of
+from invariants.expressions import INFINITY, Failed, compiled, joined, number, variable
 
 CONSTANT = "1"
 
@@ -15,7 +15,7 @@ def of_number(value):
     return None if value == INFINITY else {CONSTANT: value}
 
 
-def mixed(weighted):
+def mixed(*weighted):
     """The sum of linear expressions with weights."""
     total = {}
     for weight, terms in weighted:
@@ -26,13 +26,29 @@ def mixed(weighted):
     return total
 
 
+def valued(terms, values):
+    """The value of a linear expression, where unknowns have these values."""
+    if terms is None:
+        return INFINITY
+    return sum(factor * (1 if column == CONSTANT else values.get(column, 0)) for column, factor in terms.items())
+
+
 def first_values(typed):
     """The values that outputs and declared variables begin with."""
     return {name: False if type_name == "Bool" else 0 for name, type_name in typed}
 
 
+def is_number(value):
+    return value is not None and not isinstance(value, bool)
+
+
 def loops_of(block):
     return [statement for statement in goals.statements_of(block) if statement[0] == "while"]
+
+
+def is_hole(procedure):
+    """Whether a procedure asks for its bound."""
+    return procedure.pres == [variable("_")] and "_" not in dict(procedure.inputs)
 
 
 class Loop:
@@ -43,7 +59,7 @@ class Loop:
 
     def __init__(self, model, number, types, scope, changed, guard):
         self.model, self.number, self.types, self.scope, self.changed = model, number, types, scope, changed
-        self.guard, self.holds = guard, compiled(guard, types)[1]
+        self.guard, self.holds = guard, compiled(guard, types)
         self.template, self.turn, self.rule, self.is_plain, self.is_last = None, None, None, True, False
         self.block, self.start, self.met, self.pool, self.finite = [], 0, {}, {}, {}
 
@@ -65,46 +81,43 @@ class Loop:
 
 class Model:
     """The loops of a procedure and its entry; with `ranked`, the number of a loop, only its iterations pay, and 1 each.
-    `candidate` has the present coefficients, `rough` these in floats, which count unless `is_exact`; `sides` has the
-    rows that calls add; `trace` records choices for `replay`."""
+    `candidate` has the present coefficients, and `rough` these in floats; `sides` has the rows that calls add; `trace`
+    records the choices of schedulers for `replay`, and `extra` has values for choices."""
 
     def __init__(self, file, procedure, ranked=None):
         self.file, self.procedure, self.ranked = file, procedure, ranked
-        self.is_upper = procedure.is_upper or ranked is not None
+        self.is_upper, self.has_hole = procedure.is_upper or ranked is not None, is_hole(procedure) and ranked is None
         self.candidate, self.rough, self.sides, self.extra = {}, {}, [], {}
-        self.is_exact = self.has_choice = False
-        self.trace = self.replay = self.seen = None
-        types = dict(procedure.inputs + procedure.outputs)
-        self.has_hole = procedure.pres == [variable("_")] and "_" not in types and ranked is None
-        pres, posts = ([], []) if ranked else ([] if self.has_hole else procedure.pres, procedure.posts)
-        self.pre_expression, self.post_expression = self.clauses(pres), self.clauses(posts)
-        self.post, self.pre = (compiled(e, types)[1] for e in (self.post_expression, self.pre_expression))
-        statements = loops_of(procedure.body)
+        self.trace, self.replay, self.seen = [], [], None
+        types, statements = dict(procedure.inputs + procedure.outputs), loops_of(procedure.body)
+        self.has_choice = any(s[0] in ("pick", "any") for s in goals.statements_of(procedure.body))
+        self.pre_expression = self.clauses([] if is_hole(procedure) else procedure.pres)
+        self.post_expression = self.clauses([] if ranked else procedure.posts)
+        self.pre, self.post = compiled(self.pre_expression, types), compiled(self.post_expression, types)
         self.numbers = {id(s): n for n, s in enumerate(statements, 1)}
-        self.used = names_of([self.post_expression, statements if len(statements) > 1 else []])
+        self.used = variables_of([self.post_expression, statements if len(statements) > 1 else []])
         self.loops, self.end = {}, lambda state: of_number(self.post(state))
-        start = self.block(procedure.body, types, self.end)
+        start = self.through(procedure.body, types, self.end)
         changed = [name for name, _ in procedure.inputs]
         self.entry = Loop(self, 0, types, list(types), changed, ("truth", True))
         self.entry.turn, self.entry.rule = start, None if self.has_hole else self.pre_expression
         for loop in [self.entry, *self.loops.values()]:
             if loop.rule is not None:
-                value = compiled(loop.rule, loop.types)[1]
+                value = compiled(loop.rule, loop.types)
                 loop.template = lambda state, value=value: of_number(value(state))
-        begun = self.pre if not ranked else compiled(self.clauses(procedure.pres), types)[1]
-        self.is_begun = lambda state: self.has_hole or begun(state) != (INFINITY if procedure.is_upper else 0)
+
+    def is_begun(self, state):
+        """Whether the pre claims something of an input."""
+        return self.has_hole or self.pre(state) != (INFINITY if self.procedure.is_upper else 0)
 
     def clauses(self, clauses):
         """Several clauses as one."""
         mark, neutral = ("\\cup", number(0)) if self.is_upper else ("\\cap", ("infinity",))
-        return functools.reduce(lambda a, b: (mark, a, b), clauses) if clauses else neutral
+        return joined(mark, clauses or [neutral])
 
     def number(self, terms):
-        """The value of a linear expression under the present coefficients."""
-        if terms is None:
-            return INFINITY
-        values = self.candidate if self.is_exact else self.rough
-        return sum(factor if column == CONSTANT else factor * values.get(column, 0) for column, factor in terms.items())
+        """The value of a linear expression under the present coefficients, in floats."""
+        return valued(terms, self.rough)
 
     def met(self, loop, state):
         """The loops that an iteration from a state meets, each with its state there."""
@@ -116,97 +129,74 @@ class Model:
             self.sides.clear()
         return found
 
-    def chosen(self, found, is_greatest=None):
-        """The choice of a scheduler, or that of a `\\cap` or `\\cup`."""
-        self.has_choice = True
-        if self.replay is not None:
+    def chosen(self, found, is_greatest):
+        """The choice of a scheduler."""
+        if self.replay:
             return found[self.replay.pop()]
         values = [self.number(terms) for terms in found]
-        best = values.index((max if (self.is_upper if is_greatest is None else is_greatest) else min)(values))
-        if self.trace is not None:
-            self.trace.append(best)
-        return found[best]
+        self.trace.append(values.index((max if is_greatest else min)(values)))
+        return found[self.trace[-1]]
 
-    def block(self, block, types, after):
+    def through(self, block, types, after):
         """The value of a block as a function of the state, where `after` is the one of what follows."""
         if not block:
             return after
         (kind, *parts), rest = block[0], block[1:]
         if loops_of(block[:1]):
-            self.used = self.used | names_of(rest)
+            self.used = self.used | variables_of(rest)
         if kind == "declare":
-            return self.block(rest, {**types, parts[0]: parts[1]}, after)
+            return self.through(rest, {**types, parts[0]: parts[1]}, after)
+        if kind in ("check", "validate"):
+            raise Failed("a statement that no program has, as `assert`")
+        after = self.through(rest, types, after)
         if kind == "while":
-            return self.loop(block[0], types, self.block(rest, types, after))
-        return getattr(self, "through_" + kind)(types, self.block(rest, types, after), *parts)
+            return self.loop(block[0], types, after)
+        return getattr(self, "through_" + kind)(types, after, *parts)
 
     def through_set(self, types, after, targets, expression):
-        (name,), value = targets, compiled(expression, types)[1]
-        return lambda state: after({**state, name: value(state)})
+        return self.through_draw(types, after, targets, [(1, expression)])
 
     def through_draw(self, types, after, targets, parts):
-        (name,), exact = targets, [(weight, compiled(expression, types)[1]) for weight, expression in parts if weight]
-        rough = [(float(weight), value) for weight, value in exact]
-        return lambda state: mixed([(weight, after({**state, name: value(state)}))
-                                    for weight, value in (exact if self.is_exact else rough)])
+        (name,), parts = targets, [(weight, compiled(expression, types)) for weight, expression in parts if weight]
+        if len(parts) == 1:
+            return lambda state, value=parts[0][1]: after({**state, name: value(state)})
+        return lambda state: mixed(*((weight, after({**state, name: value(state)})) for weight, value in parts))
 
     def through_toss(self, types, after, targets, expression):
-        (name,), chance = targets, compiled(expression, types)[1]
+        (name,), chance = targets, compiled(expression, types)
 
         def tossed(state):
-            heads = min(Fraction(chance(state)) if self.is_exact else float(chance(state)), 1)
+            heads = min(Fraction(chance(state)), 1)
             sides = [(weight, side) for weight, side in ((heads, True), (1 - heads, False)) if weight]
-            return mixed([(weight, after({**state, name: side})) for weight, side in sides])
+            return mixed(*((weight, after({**state, name: side})) for weight, side in sides))
         return tossed
 
     def through_reward(self, types, after, expression):
-        value = compiled(expression, types)[1]
-        return after if self.ranked else lambda state: mixed([(1, after(state)), (1, of_number(value(state)))])
+        value = compiled(expression, types)
+        return after if self.ranked else lambda state: mixed((1, after(state)), (1, of_number(value(state))))
 
     def through_if(self, types, after, arms, other):
-        arms = [(compiled(guard, types)[1], self.block(block, types, after)) for guard, block in arms]
-        other = self.block(other, types, after)
+        arms = [(compiled(guard, types), self.through(block, types, after)) for guard, block in arms]
+        other = self.through(other, types, after)
         return lambda state: next((block for guard, block in arms if guard(state)), other)(state)
 
     def through_pick(self, types, after, mark, left, right):
-        left, right = self.block(left, types, after), self.block(right, types, after)
+        left, right = self.through(left, types, after), self.through(right, types, after)
         is_greatest = mark == "\\cup" or self.ranked is not None
         return lambda state: self.chosen([left(state), right(state)], is_greatest)
 
     def through_any(self, types, after, names):
         name, *others = names
-        after = self.through_any(types, after, others) if others else after
-        return lambda state: self.chosen([after({**state, name: v}) for v in self.values(state, name, types[name])])
-
-    def through_check(self, types, after, word, expression):
-        """An assert or assume, with or without `co`."""
-        value, is_upper = compiled(expression, types)[1], word.startswith("co")
-
-        def checked(state):
-            claimed, found = value(state), after(state)
-            self.has_choice = self.has_choice or claimed not in (0, INFINITY)
-            if word.endswith("assert"):
-                is_neutral = claimed == (0 if is_upper else INFINITY)
-                return found if is_neutral else self.chosen([of_number(claimed), found], is_upper)
-            is_met = claimed >= self.number(found) if is_upper else claimed <= self.number(found)
-            return of_number(0 if is_upper else INFINITY) if is_met else found
-        return after if self.ranked else checked
-
-    def through_validate(self, types, after, word):
-        def validated(state):
-            value = self.number(after(state))
-            self.has_choice = True
-            return of_number((INFINITY if value == INFINITY else 0) if word == "validate" else INFINITY if value else 0)
-        return after if self.ranked else validated
+        after, upper = self.through_any(types, after, others) if others else after, self.is_upper
+        return lambda s: self.chosen([after({**s, name: v}) for v in self.values(s, name, types[name])], upper)
 
     def values(self, state, name, type_name):
         """Some of the values that a choice may take."""
         if type_name == "Bool":
             return [False, True]
         found = {0, 1, 2, 3, 7} | self.extra.get(name, set()) | ({Fraction(1, 2)} if type_name == "UReal" else set())
-        for value in state.values():
-            if value is not None and not isinstance(value, bool):
-                found |= {value, value + 1, value - 1}
+        for value in filter(is_number, state.values()):
+            found |= {value, value + 1, value - 1}
         is_real, is_int = type_name == "UReal", type_name == "Int"
         return sorted(v for v in found if (v >= 0 or is_int) and (is_real or Fraction(v).denominator == 1))
 
@@ -215,23 +205,21 @@ class Model:
         what is wanted."""
         called = next(procedure for procedure in self.file if procedure.name == name)
         is_self = called is self.procedure
-        if called.pres == [variable("_")] and not is_self and "_" not in dict(called.inputs):
+        if is_hole(called) and not is_self:
             raise Failed(f"a call of {name}, whose bound was not found")
-        values, scope = [compiled(argument, types)[1] for argument in arguments], dict(called.inputs + called.outputs)
-        post = compiled(self.clauses(called.posts), scope)[1]
-        pre = compiled(self.clauses([] if is_self else called.pres), scope)[1]
+        values, scope = [compiled(argument, types) for argument in arguments], dict(called.inputs + called.outputs)
+        post, pre = (compiled(self.clauses(c), scope) for c in (called.posts, [] if is_self else called.pres))
 
         def demand(state, given, outputs):
             if outputs:
                 for value in self.values(state, *outputs[0]):
                     demand(state, {**given, outputs[0][0]: value}, outputs[1:])
                 return
-            claimed = of_number(post(given))
             put = {target: given[output] for target, (output, _) in zip(targets, called.outputs)}
-            wanted = after({**state, **put})
+            claimed, wanted = of_number(post(given)), after({**state, **put})
             greater, less = (claimed, wanted) if self.is_upper else (wanted, claimed)
             if greater is not None:
-                self.sides.append(None if less is None else mixed([(1, greater), (-1, less)]))
+                self.sides.append(None if less is None else mixed((1, greater), (-1, less)))
 
         def value_of(state):
             inputs = {name: value(state) for (name, _), value in zip(called.inputs, values)}
@@ -243,17 +231,18 @@ class Model:
         """A loop where it is met. Its body is read with the loop after it."""
         _, rules, guard, body = statement
         targets, number = goals.targets_of(body), self.numbers[id(statement)]
-        rule = None if number == self.ranked else rules.get("k_induction", rules.get("invariant", [None]))[-1]
-        used = set(types) if rule is not None else targets | self.used | names_of([guard, body])
+        is_ranked = number == self.ranked
+        rule = None if is_ranked else rules.get("k_induction", rules.get("invariant", [None]))[-1]
+        used = set(types) if rule is not None else targets | self.used | variables_of([guard, body])
         scope, changed = [name for name in types if name in used], [name for name in types if name in targets]
         loop = self.loops[number] = Loop(self, number, types, scope, changed, guard)
-        loop.is_last, loop.block = number == self.ranked or after is self.end, body
+        loop.is_last, loop.block = is_ranked or after is self.end, body
         loop.rule, loop.is_plain, loop.start = rule, "k_induction" not in rules, getattr(statement, "start", 0)
-        inner = self.block(body, types, loop.at)
+        inner = self.through(body, types, loop.at)
 
         def turn(state):
             if loop.holds(state):
-                return mixed([(1, inner(state)), (1, {CONSTANT: int(number == self.ranked)})])
-            return {} if number == self.ranked and self.seen is None else after(state)
+                return mixed((1, inner(state)), (1, {CONSTANT: int(is_ranked)}))
+            return {} if is_ranked and self.seen is None else after(state)
         loop.turn = turn
         return loop.at

@@ -14,7 +14,7 @@ def iterated(model, starts, seconds):
     of a loop has its value as a coefficient."""
     end, states, rows, change = time.time() + seconds, [], {}, 1.0
     loops = [loop for loop in model.loops.values() if loop.rule is None or loop.number == model.ranked]
-    kept, model.rough = (model.rough, [loop.template for loop in loops]), {}
+    rough, templates, model.rough = model.rough, [loop.template for loop in loops], {}
 
     def column(loop, state):
         name = (loop.number, loop.key(state))
@@ -24,35 +24,30 @@ def iterated(model, starts, seconds):
                 states.append((name, loop, state))
         return {name: 1}
 
-    def row(name, loop, state):
-        model.has_choice = False
-        terms = loop.turn(state)
-        terms = terms and {column: float(factor) for column, factor in terms.items()}
-        if not model.has_choice:
-            rows[name] = terms
-        return terms
-    for loop in loops:
-        loop.template = lambda state, loop=loop: column(loop, state)
+    def value(name, loop, state):
+        if name not in rows or model.has_choice:
+            terms = loop.turn(state)
+            rows[name] = terms and {column: float(factor) for column, factor in terms.items()}
+        return float(model.number(rows[name]))
     try:
+        for loop in loops:
+            loop.template = lambda state, loop=loop: column(loop, state)
         for start in starts:
             start()
         for state in states:
             if time.time() < end:
-                row(*state)
+                value(*state)
         while change > TINY and time.time() < end:
             change = 0.0
             for name, loop, state in reversed(states):
-                value = float(model.number(rows[name] if name in rows else row(name, loop, state)))
-                change = max(change, abs(value - model.rough[name]) / (1 + value) if value < INFINITY else 0)
-                model.rough[name] = value
-        model.has_choice = False
-        values = [float(model.number(start())) for start in starts]
-        model.has_choice = model.has_choice or len(rows) < len(states)
-        return values
+                new, old = value(name, loop, state), model.rough[name]
+                change = max(change, abs(new - old) / (1 + new) if new < INFINITY else 0)
+                model.rough[name] = new
+        return [float(model.number(start())) for start in starts]
     finally:
-        for loop, template in zip(loops, kept[1]):
+        for loop, template in zip(loops, templates):
             loop.template = template
-        model.rough = kept[0]
+        model.rough = rough
         model.sides.clear()
 
 

@@ -6,19 +6,19 @@ from fractions import Fraction
 
 import goals
 from invariants.expressions import parts_of
-from invariants.model import first_values
-from invariants.templates import MOST_VALUE
+from invariants.model import first_values, is_number
 
-MOST_VALUES, MOST_ASKED, FAR = 200, 500, 1000
-NUMBERS = ("UInt", "Int", "UReal")
-
-
-def is_number(value):
-    return value is not None and not isinstance(value, bool)
+MOST_VALUES, MOST_ASKED, MOST_MET, MOST_LARGE, FAR = 150, 500, 1500, 1900, 1000
 
 
 def size(state):
     return sum(abs(value) for value in state.values() if is_number(value))
+
+
+def are_few(values):
+    """Whether these seem to be all values of a variable that has few."""
+    is_known = values and None not in values and len(values) <= MOST_VALUES and max(map(abs, values)) <= MOST_VALUES
+    return is_known and all(Fraction(value).denominator == 1 for value in values)
 
 
 class Samples:
@@ -63,78 +63,71 @@ class Samples:
             return chance.choice([Fraction(value, 2), Fraction(chance.randint(0, 16), chance.choice([2, 3, 4, 8]))])
         return value * chance.choice([1, -1]) if type_name == "Int" else value
 
+    def other(self, type_name, state):
+        """A value near that of some variable, or any."""
+        chance, others = self.random, [abs(value) for value in state.values() if is_number(value)]
+        if type_name == "Bool" or not others or chance.random() < 0.5:
+            return self.any_value(type_name)
+        value = max(chance.choice(others) + chance.choice([-2, -1, 0, 0, 1, 2, chance.randint(-12, 12)]), 0)
+        return value if type_name == "UReal" else int(value) * (chance.choice([1, -1]) if type_name == "Int" else 1)
+
     def inputs(self):
-        """Inputs of a grid, at random, Ints with their distances, and far away."""
+        """Inputs of a grid, others of which some are near each other, and such that are far away."""
         typed, chance = dict(self.model.procedure.inputs), self.random
         few = [[0, 1, 2, 3, 4, 5, 6, 7, 12, 37, FAR], [0, 1, 2, 5, 37], [0, 1, 3]][min(max(len(typed), 2), 4) - 2]
         quarters = [Fraction(n, 4) for n in (0, 1, 2, 3, 4, 5, 6, 8, 20, 4 * FAR)] if len(typed) <= 2 else few
         grids = [{"Bool": [False, True], "UReal": quarters}.get(t, few) for t in typed.values()]
         found = self.some(map(dict, (zip(typed, p) for p in itertools.product(*grids))), 260) if len(typed) < 9 else []
-        found += [{name: self.any_value(t) for name, t in typed.items()} for _ in range(80)]
-        numeric = [name for name, t in typed.items() if t != "Bool"]
-        for x, y in itertools.permutations(numeric, 2):
-            for n in (0, 1, 2, 3, 5, 8, 37, FAR, FAR + 1) if typed[x] == "Int" else ():
-                found += [{**{name: self.any_value(t) for name, t in typed.items()}, x: s * n, y: n} for s in (-1, 1)]
-        for _ in range(120 if numeric else 0):
-            state = {name: self.any_value("Bool") if t == "Bool" else chance.randint(0, 9) for name, t in typed.items()}
-            far = [name for name in numeric if chance.random() < 0.5] or numeric
-            found.append({**state, **{name: state[name] + chance.choice([FAR, FAR, FAR, 2 * FAR]) for name in far}})
-        outputs = self.model.procedure.outputs
+        for _ in range(200):
+            state = {}
+            for name in self.some(typed, len(typed)):
+                state[name] = self.other(typed[name], state)
+            found.append(state)
+        outputs, numeric = self.model.procedure.outputs, [name for name, t in typed.items() if t != "Bool"]
+        begun = [state for state in found if self.model.is_begun(state)]
+        for state in [chance.choice(begun) for _ in range(120)] if numeric and begun else ():
+            names = [name for name in numeric if chance.random() < 0.5] or numeric
+            found.append({**state, **{name: self.far(state[name]) for name in names}})
         found += [{**found[0], **{name: self.any_value(t) for name, t in outputs}} for _ in range(6)]
         return [{**first_values(outputs), **state} for state in found]
+
+    def far(self, value):
+        return value + (FAR if value >= 0 else -FAR) * self.random.choice([1, 1, 1, 2])
 
     def explore(self, until):
         """Collects states that runs meet, until a time: first in any order, then those in which a variable is largest,
         which shows whether it has few values."""
-        queues, chance, model, is_cut = {loop: [] for loop in self.loops}, self.random, self.model, False
+        queues, chance = {loop: [] for loop in self.loops}, self.random
 
         def take(loop, state, most):
-            nonlocal is_cut
-            for met, at in model.met(loop, state):
-                if met.number and met.key(at) not in met.met:
-                    is_cut = is_cut or len(met.met) >= most
-                    if len(met.met) < most:
-                        met.met[met.key(at)] = at
-                        queues[met].append(at)
-        for state in sorted(model.entry.met.values(), key=size):
-            take(model.entry, state, 1500)
+            for met, at in self.model.met(loop, state):
+                if met.number and met.key(at) not in met.met and len(met.met) < most:
+                    met.met[met.key(at)] = at
+                    queues[met].append(at)
+        for state in sorted(self.model.entry.met.values(), key=size):
+            take(self.model.entry, state, MOST_MET)
         for _ in range(900 + 300 * len(self.loops)):
             waiting = [loop for loop in self.loops if queues[loop]]
             if not waiting or time.time() > until:
                 break
             loop = chance.choice(waiting)
-            queue = queues[loop]
-            if chance.random() < 0.6:
-                at = chance.randrange(len(queue) if chance.random() < 0.5 else len(queue) // 8 + 1)
-                queue[at], queue[-1] = queue[-1], queue[at]
-            take(loop, queue.pop(), 1500)
-        before = {loop: {name: {s[name] for s in loop.met.values()} for name in loop.scope} for loop in self.loops}
-        for loop in self.loops:
-            for name in [name for name in loop.scope if loop.types[name] in NUMBERS]:
-                for _ in range(40):
-                    queue = queues[loop]
-                    sizes = [(abs(s[name]), at) for at, s in enumerate(queue) if is_number(s[name])]
-                    sizes = [pair for pair in sizes if pair[0] < 500]
-                    if not sizes or time.time() > until:
-                        break
-                    take(loop, queue.pop(max(sizes)[1]), 1900)
-        is_done = not any(queues.values()) and not is_cut
-        for loop in self.loops:
-            for name in loop.scope:
-                values = {state[name] for state in loop.met.values()}
-                if self.are_few(values, loop.types[name], is_done or before[loop][name] == values):
-                    loop.finite[name] = sorted(values)
-
-    @staticmethod
-    def are_few(values, type_name, are_all):
-        """Whether a variable seems to have these values alone."""
-        if type_name == "Bool" or not values or None in values:
-            return type_name == "Bool"
-        is_small = len(values) <= MOST_VALUES and max(map(abs, values)) <= MOST_VALUE
-        return are_all and is_small and all(Fraction(value).denominator == 1 for value in values)
+            count = len(queues[loop])
+            at = chance.choice([-1, -1, chance.randrange(count), chance.randrange(count // 8 + 1)])
+            take(loop, queues[loop].pop(at), MOST_MET)
+        before = {(loop, name): {s[name] for s in loop.met.values()} for loop in self.loops for name in loop.scope}
+        for loop, name in [pair for pair in before for _ in range(40) if pair[0].types[pair[1]] != "Bool"]:
+            values = [(abs(s[name]), at) for at, s in enumerate(queues[loop]) if is_number(s[name])]
+            values = [pair for pair in values if pair[0] < MOST_ASKED]
+            if values and time.time() < until:
+                take(loop, queues[loop].pop(max(values)[1]), MOST_LARGE)
+        is_done = not any(queues.values()) and all(len(loop.met) < MOST_MET for loop in self.loops)
+        for (loop, name), values in before.items():
+            found = {state[name] for state in loop.met.values()}
+            if (is_done or found == values or loop.types[name] == "Bool") and are_few(found):
+                loop.finite[name] = sorted(found)
 
     def note_far(self, loop, state):
-        """Notes copies of a state in which a changed variable is large."""
+        """Notes copies of a state in which a changed variable is far away."""
         for name in loop.changed:
             if name in loop.scope and name not in loop.finite and is_number(state[name]):
                 loop.note({**state, name: state[name] + FAR})
@@ -145,21 +138,10 @@ class Samples:
         for _ in range(count if states else 0):
             state = dict(self.random.choice(states))
             for name in loop.changed:
+                few = loop.finite.get(name) if self.random.random() < 0.4 else None
                 if self.random.random() < 0.6:
-                    state[name] = self.other(loop, state, name)
+                    state[name] = self.random.choice(few) if few else self.other(loop.types[name], state)
             loop.note(state)
-
-    def other(self, loop, state, name):
-        """Another value for a variable: near that of some variable, one that was met, or any."""
-        type_name, chance = loop.types[name], self.random
-        others = [value for value in state.values() if is_number(value)]
-        if type_name != "Bool" and others and chance.random() < 0.5:
-            value = chance.choice(others) + chance.choice([-2, -1, 0, 0, 1, 2, chance.randint(-12, 12)])
-            value = value if type_name == "Int" else max(value, 0)
-            return value if type_name == "UReal" else int(value)
-        if loop.finite.get(name) and chance.random() < 0.7:
-            return chance.choice(loop.finite[name])
-        return self.any_value(type_name)
 
     def learn(self, number, plain, marked):
         """Takes a state that `verify` shows: for the loop of this number where it is about one, else for the inputs and
@@ -168,21 +150,20 @@ class Samples:
         if number:
             loop = model.loops[number]
             zeros = first_values((name, loop.types[name]) for name in loop.scope)
-            loop.note({name: plain.get(name, zeros[name]) for name in loop.scope})
+            loop.note({name: plain.get(name, zero) for name, zero in zeros.items()})
         state = {name: plain.get(name, value) for name, value in first_values(heads).items()}
         for name, values in marked.items():
-            model.extra.setdefault(name, set()).update(value for value in values if is_number(value))
+            model.extra.setdefault(name, set()).update(filter(is_number, values))
         model.entry.note(state)
-        is_single = len(self.loops) == 1
         waiting = model.met(model.entry, state)
-        for step in range(1 if is_single else 3):
+        for _ in range(3):
             found = []
             for loop, at in [pair for pair in waiting if pair[0].number][:60]:
                 for changed in self.with_marks(loop, at, marked):
                     loop.note(changed)
                     if any(is_number(value) and 20 < abs(value) < 500 for value in changed.values()):
                         self.note_far(loop, changed)
-                    if not is_single and step < 2 and self.random.random() < 0.2:
+                    if len(self.loops) > 1 and self.random.random() < 0.2:
                         found += model.met(loop, changed)
             waiting = found
 
@@ -212,5 +193,5 @@ def expressions_of(block):
             yield from (pair[kind == "draw"] for pair in parts[kind == "draw"])
         elif kind == "call":
             yield from parts[2]
-        elif kind in ("set", "toss", "while", "check", "reward"):
+        elif kind in ("set", "toss", "while", "reward"):
             yield parts[0 if kind == "reward" else 1]

@@ -7,20 +7,16 @@ from fractions import Fraction
 
 from invariants.expressions import INFINITY, Failed, shown
 from invariants.judge import is_accepted, state_of
-from invariants.model import CONSTANT, mixed
+from invariants.model import CONSTANT, is_number, mixed, valued
 from invariants.refuting import broken, exact_total
-from invariants.samples import FAR, Samples, is_number, size
+from invariants.samples import FAR, Samples, size
 from invariants.shapes import Shapes
 from invariants.simplex import LinearProgram
 from invariants.simplify import shortest
-from invariants.templates import MOST_CELLS, Template
+from invariants.templates import Template
 
-MOST_VERDICTS, MOST_CUTS, MOST_ROWS, MOST_GOALS, GOAL_COST, NEAR, TINY = 40, 12, 400, 40, 1000, Fraction(1, 1000), 1e-11
+MOST_VERDICTS, MOST_CUTS, MOST_ROWS, MOST_GOALS, GOAL_COST, NEAR = 40, 12, 400, 40, 1000, Fraction(1, 1000)
 SLACKS = [Fraction(1, 2**bits) for bits in (4, 10, 16, 24)]
-
-
-class Hopeless(Failed):
-    """No invariant can help."""
 
 
 class Search:
@@ -30,11 +26,10 @@ class Search:
 
     def __init__(self, model, verdict_on, seconds, seed, say):
         self.model, self.verdict_on, self.seconds, self.say = model, verdict_on, seconds, say
-        self.begin, self.slack, self.random = time.time(), 0, random.Random(seed)
+        self.begin, self.random, self.exact = time.time(), random.Random(seed), None
         self.end, self.last, self.reasons, self.suspects = self.begin + seconds, "", {}, []
-        self.asked, self.exact = 0, None
         every = [model.entry, *(model.loops[number] for number in sorted(model.loops))]
-        self.samples = Samples(model, Shapes(model, [], self.random).expressions, seed, seconds / 10)
+        self.samples = Samples(model, Shapes(model).expressions, seed, seconds / 10)
         self.loops = [loop for loop in every if loop.rule is None]
         self.checked = [loop for loop in every if loop.is_plain]
         if model.ranked:
@@ -50,7 +45,7 @@ class Search:
     def run(self):
         """What was found: invariants by the numbers of loops; None with `reasons` by shape, or with `suspects`."""
         best, total = None, None
-        for step, shapes in Shapes(self.model, self.loops, self.random):
+        for step, shapes in Shapes(self.model, self.loops):
             if self.is_late() or best and self.is_enough(total):
                 break
             try:
@@ -62,7 +57,7 @@ class Search:
             except Failed as failure:
                 self.reasons[step] = str(failure)
                 self.say(f"  {step}: {str(failure)[:150]} ({time.time() - self.begin:.1f} s)")
-                if isinstance(failure, Hopeless) or not best and self.is_suspect(1):
+                if "nonlinear at" in str(failure) or not best and len(self.reasons) == 3 and self.is_suspect(1):
                     break
         if best is None:
             self.is_suspect(4)
@@ -71,18 +66,15 @@ class Search:
 
     def found(self, shapes, limit):
         """The invariants in these shapes that `verify` accepts; where numbers get too large, with rounded tables."""
-        first = None
-        for slack in (0, *SLACKS):
-            self.slack = slack
+        reasons = []
+        for self.slack in (0, *SLACKS):
             try:
                 return self.attempt(shapes, limit)
             except Failed as failure:
-                first = first or failure
-                if "bits" not in str(first):
+                reasons.append(failure)
+                if "bits" not in str(reasons[0]):
                     break
-            finally:
-                self.slack = 0
-        raise first
+        raise reasons[0]
 
     def is_enough(self, total):
         """Whether no better bound is worth the time: iterations show that there is none, or ten times what the first
@@ -94,26 +86,23 @@ class Search:
         return total <= self.exact * (1 + float(NEAR)) or is_long
 
     def is_suspect(self, effort):
-        """Whether iterations pass the pre at `suspects`; asked once after some shapes and once at the end."""
-        is_early = effort == 1 and len(self.reasons) < 3 and time.time() < self.begin + self.seconds / 40
-        if self.aim or self.asked >= effort or is_early:
-            return False
-        self.asked = effort
-        self.suspects = self.suspects or broken(self.model, min(self.seconds / 30 * effort, self.end - time.time()))
+        """Whether iterations pass the pre at `suspects`; asked after some shapes and at the end."""
+        if not self.aim and not self.suspects:
+            self.suspects = broken(self.model, min(self.seconds / 30 * effort, self.end - time.time()))
         return bool(self.suspects)
 
     # One shape.
 
     def attempt(self, shapes, limit):
         """The invariants in these shapes that `verify` accepts, with a total of at most `limit`."""
-        self.program, self.columns, self.cache = LinearProgram(), {}, {}
-        self.model.candidate, self.model.rough, self.model.has_choice = {}, {}, False
+        self.program, self.cache = LinearProgram(), {}
+        self.model.candidate, self.model.rough = {}, {}
         for loop, shape in zip(self.loops, shapes):
-            loop.template = Template(loop, self.model, shape, self.coefficient)
+            loop.template = Template(loop, self.model, shape, self.program.unknown)
         self.prune()
-        self.goal = self.coefficient(GOAL_COST, True) if self.aim else None
+        self.goal = self.program.unknown(GOAL_COST) if self.aim else None
         if limit is not None:
-            self.add({CONSTANT: limit, self.goal: -1})
+            self.program.add({self.goal: -1}, limit)
         self.solve()
         for _ in range(MOST_VERDICTS):
             invariants = {loop.number: loop.template.expression() for loop in self.loops}
@@ -125,167 +114,121 @@ class Search:
             self.solve()
         raise Failed(f"{MOST_VERDICTS} proposals refused")
 
-    def coefficient(self, cost, is_positive):
-        """A new unknown, which may be negative unless `is_positive`."""
-        name = len(self.columns)
-        self.columns[name] = (self.program.column(cost), None if is_positive else self.program.column(cost))
-        return name
-
     def solve(self):
         """Adds the rows that the coefficients break most and solves again, until none is broken."""
+        program, model = self.program, self.model
         while cuts := self.cuts():
             for terms in cuts:
-                self.add(terms)
-            found = self.program.solve(self.is_late)
+                program.add({name: f for name, f in terms.items() if name != CONSTANT}, terms.get(CONSTANT, 0))
+            found = program.solve(self.is_late)
             if not found:
                 raise Failed("no coefficients serve" if found is False else "time")
-            if len(self.program.rows) > MOST_ROWS:
-                self.program.forget()
-            value = self.program.value
-            for name, (up, down) in self.columns.items():
-                self.model.candidate[name] = value(up) - (0 if down is None else value(down))
-                self.model.rough[name] = float(self.model.candidate[name])
+            if len(program.rows) > MOST_ROWS:
+                program.forget()
+            model.candidate = {name: program.value(name) for name in range(program.count)}
+            model.rough = {name: float(value) for name, value in model.candidate.items()}
         for loop in self.loops if self.slack else ():
             self.round(loop.template)
-
-    def add(self, terms):
-        """Adds a row over coefficients."""
-        found = {}
-        for name, factor in terms.items():
-            if name != CONSTANT:
-                up, down = self.columns[name]
-                found[up] = factor
-                if down is not None:
-                    found[down] = -factor
-        self.program.add(found, terms.get(CONSTANT, 0))
 
     def round(self, template):
         """Rounds the entries of tables to the grid of the slack, up in a coproc and down in a proc; an iteration has
         that much to spare."""
         candidate, side = self.model.candidate, math.ceil if self.model.is_upper else math.floor
-        for column, in [[column for column, _ in cell] for cell in template.cells.values() if len(cell) == 1]:
-            candidate[column] = self.slack * side(Fraction(candidate.get(column, 0)) / self.slack)
+        for (name, _), in [cell for cell in template.cells.values() if len(cell) == 1]:
+            candidate[name] = self.slack * side(candidate.get(name, 0) / self.slack)
 
     def refused(self, verdict):
         """Learns from a verdict, or raises where nothing is to be learnt."""
         if not verdict.startswith("not "):
-            raise (Hopeless if "nonlinear at" in verdict else Failed)(verdict)
+            raise Failed(verdict)
         self.last = verdict
-        count = sum(len(loop.pool) for loop in self.checked)
         number, plain, marked = state_of(verdict)
         self.samples.learn(self.model.ranked or number, plain, marked)
-        self.prune()
-        for _ in range(4):
+        self.cache.clear()
+        for _ in range(5):
+            self.prune()
             if self.cuts():
                 return
             for loop in self.loops:
                 self.samples.vary(loop, 200)
-            self.prune()
-        if sum(len(loop.pool) for loop in self.checked) == count or not self.cuts():
-            raise Failed("a state that the samples do not explain")
+        raise Failed("a state that the samples do not explain")
 
     def prune(self):
-        """Drops facts that iterations do not keep, and lets cells in that iterations reach."""
+        """Drops facts that iterations do not keep, and lets leaves in that iterations reach."""
         open_loops = [loop for loop in self.loops if loop.template.facts or loop.template.allowed is not None]
-        is_changed, nothing = bool(open_loops), INFINITY if self.model.is_upper else 0
-
-        def is_claimed(loop, state):
-            if loop in self.loops:
-                return loop.template.holds(state)
-            return self.model.number(loop.template(state)) != nothing
+        is_changed = bool(open_loops)
         while is_changed and not self.is_late():
             is_changed = False
             for loop in self.checked:
-                states = [state for state in loop.pool.values() if is_claimed(loop, state)]
-                pairs = [pair for state in states for pair in self.model.met(loop, state)]
-                for met, state in [pair for pair in pairs if pair[0] in open_loops]:
-                    template, row = met.template, met.template.row_of(state)
-                    kept = [fact for fact in template.facts if fact[1](state)]
-                    is_new = template.allowed is not None and row is not None and row not in template.allowed
-                    is_changed = is_changed or is_new or len(kept) < len(template.facts)
-                    template.facts = kept
-                    if is_new:
-                        template.allowed.add(row)
-                        if len(template.allowed) > MOST_CELLS:
-                            raise Failed(f"more than {MOST_CELLS} cases")
+                for state in [state for state in loop.pool.values() if self.is_claimed(loop, state)]:
+                    for met, at in self.model.met(loop, state):
+                        is_changed = met in open_loops and met.template.admit(at) or is_changed
+
+    def is_claimed(self, loop, state):
+        """Whether something is claimed of a state of a loop."""
+        if loop in self.loops:
+            return loop.template.holds(state)
+        return self.model.number(loop.template(state)) != (INFINITY if self.model.is_upper else 0)
 
     # Rows.
 
     def cuts(self):
-        """The rows that the present coefficients break most, which are found in floats."""
-        found, counts, chosen = [], {}, []
+        """The rows that the present coefficients break most; what seems broken in floats is asked exactly."""
+        found, counts, values = [], {}, {**self.model.rough, CONSTANT: 1}
         asked = [(loop, key) for loop in self.checked for key in loop.pool] + [(None, None)] * bool(self.goals)
         self.random.shuffle(asked)
         for at, (loop, key) in enumerate(asked):
             if len(found) >= MOST_CUTS and at >= 60 or at % 50 == 49 and self.is_late():
                 break
-            for index, terms in enumerate(self.rows_of(loop, key)):
-                values = {**self.model.rough, CONSTANT: 1}
-                parts = [factor * values.get(name, 0) for name, factor in terms.items()]
-                value = float(sum(parts))
-                is_broken = value < 0 and value < -TINY * float(sum(map(abs, parts)))
-                if is_broken and (value < -1e-7 or self.exact_row(loop, key, index)):
-                    norm = sum(abs(float(factor)) for name, factor in terms.items() if name != CONSTANT) + 1e-9
-                    found.append((value / norm, len(found), loop, key, index))
-        for _, _, loop, key, index in sorted(found, key=lambda row: row[:2]):
-            if counts.get(loop, 0) < 4 and len(chosen) < MOST_CUTS and (terms := self.exact_row(loop, key, index)):
-                counts[loop] = counts.get(loop, 0) + 1
+            for terms, rough in self.rows_of(loop, key):
+                value = sum(factor * values.get(name, 0) for name, factor in rough.items())
+                if value < 0 and self.is_broken(loop, terms):
+                    norm = sum(abs(factor) for name, factor in rough.items() if name != CONSTANT)
+                    found.append((value / norm, len(found), loop, terms))
+        chosen = []
+        for _, _, loop, terms in sorted(found, key=lambda row: row[:2]):
+            counts[loop] = counts.get(loop, 0) + 1
+            if counts[loop] <= 4 and len(chosen) < MOST_CUTS:
                 chosen.append(terms)
         return chosen
 
-    def exact_row(self, loop, key, index):
-        """A row of a state exactly, or None where the present coefficients satisfy it."""
-        model = self.model
-        model.is_exact = True
-        try:
-            terms = [*self.rows(loop, key), *[{}] * index][index]
-            if model.number(terms) >= 0:
-                return None
-        finally:
-            model.is_exact = False
+    def is_broken(self, loop, terms):
+        """Whether a row is broken that coefficients can mend."""
+        if valued(terms, self.model.candidate) >= 0:
+            return False
         if any(factor for name, factor in terms.items() if name != CONSTANT):
-            return terms
+            return True
         if loop is None or loop in self.loops or not loop.number:
             raise Failed("no value serves at a state")
-        return None
+        return False
 
     def rows_of(self, loop, key):
-        """The rows of a state in floats, of which those without a choice are kept."""
-        model = self.model
-        if (loop, key) in self.cache:
-            return self.cache[loop, key]
-        had_choice, model.has_choice = model.has_choice, False
-        rows = self.rows(loop, key)
-        if not model.has_choice:
-            self.cache[loop, key] = rows
-        model.has_choice = had_choice or model.has_choice
-        return rows
-
-    def rows(self, loop, key):
-        """The rows of a state, and of the goals, where there is no loop."""
-        return self.rows_along(loop, loop.pool[key]) if loop else self.goal_rows()
+        """The rows of a state, or of the goals, where there is no loop, each with its factors in floats; those without
+        a choice are kept."""
+        if (loop, key) not in self.cache or self.model.has_choice:
+            rows = self.rows_along(loop, loop.pool[key]) if loop else self.goal_rows()
+            floats = [{name: float(factor) for name, factor in terms.items()} for terms in rows]
+            self.cache[loop, key] = list(zip(rows, floats))
+        return self.cache[loop, key]
 
     def rows_along(self, loop, state):
         """The rows of a state; where values are large, also those that ask the same of all larger ones: what a row
         gains along the ray, with the same choices."""
-        model, model.trace = self.model, []
-        rows, trace = self.rows_at(loop, state), model.trace
-        model.trace = None
-        large = [name for name, value in state.items() if is_number(value) and abs(value) >= FAR / 2]
-        far = {name: state[name] + FAR * round(state[name] / FAR) for name in large}
+        model, rows = self.model, self.rows_at(loop, state)
+        far = {name: value + FAR * round(value / FAR) for name, value in state.items()
+               if is_number(value) and abs(value) >= FAR / 2}
         if not far:
             return rows
-        model.replay = trace[::-1]
+        model.replay = model.trace[::-1]
         try:
             more = self.rows_at(loop, {**state, **far})
-        except (Failed, IndexError):
-            more = []
-        model.replay = None
-        if len(more) == len(rows) and all(a.keys() - {CONSTANT} == b.keys() - {CONSTANT} for a, b in zip(rows, more)):
-            gains = [mixed([(1, b), (-1, a)]) for a, b in zip(rows, more)]
-            for gain, b in zip(gains, more):
-                rows.append({name: f if abs(f) > TINY * abs(b.get(name, 0)) else 0 for name, f in gain.items()})
-        return rows
+            columns = [[terms.keys() - {CONSTANT} for terms in found] for found in (rows, more)]
+            is_same = not model.replay and not model.trace and columns[0] == columns[1]
+            return rows + [mixed((1, b), (-1, a)) for a, b in zip(rows, more)] * is_same
+        except Failed:
+            return rows
+        finally:
+            model.replay = []
 
     def goal_rows(self):
         """The row that the total of the values that are made small is at most that of the goal."""
@@ -293,15 +236,16 @@ class Search:
         if None in values:
             raise Failed("infinite at an input")
         if self.model.is_upper:
-            return [mixed([(1, {self.goal: 1}), *((-1, value) for value in values)])]
-        return [mixed([(1, {self.goal: 1, CONSTANT: -len(values)}), *((1, value) for value in values)])]
+            return [mixed((1, {self.goal: 1}), *((-1, value) for value in values))]
+        return [mixed((1, {self.goal: 1, CONSTANT: -len(values)}), *((1, value) for value in values))]
 
     def rows_at(self, loop, state):
         """That an iteration from a state keeps to the template, that its value is no less than 0, and in a weak proc no
         more than 1."""
-        model, rows, is_upper = self.model, [], self.model.is_upper
+        model, rows, is_upper, is_open = self.model, [], self.model.is_upper, loop in self.loops
+        model.trace = []
         model.sides.clear()
-        here, is_open = loop.template(state), loop in self.loops
+        here = loop.template(state)
         if here is None and is_upper or is_open and not is_upper and not loop.template.holds(state):
             return rows
         if not (is_open and loop.number and loop.template.is_exit(state)):
@@ -310,11 +254,11 @@ class Search:
             if greater is not None:
                 if less is None:
                     raise Failed("infinite after an iteration")
-                rows.append(mixed([(1, greater), (-1, less), (-1, {CONSTANT: self.slack if is_open else 0})]))
+                rows.append(mixed((1, greater), (-1, less), (-1, {CONSTANT: self.slack if is_open else 0})))
         if is_open:
             rows.append(here)
             if model.procedure.is_weak and not is_upper:
-                rows.append(mixed([(1, {CONSTANT: 1}), (-1, here)]))
+                rows.append(mixed((1, {CONSTANT: 1}), (-1, here)))
         if None in model.sides:
             raise Failed("infinite at a call")
         rows += model.sides

@@ -1,41 +1,41 @@
 """Exact linear programs over fractions by the dual simplex method.
 
-Minimises a sum of nonnegative costs over x >= 0 under rows `terms * x + constant >= 0`, which are added one by one. x =
-0 is dual feasible from the start, so there is no first phase, and each row that is added later keeps it so."""
+Minimises a sum of nonnegative costs of unknowns under rows `terms + constant >= 0`, which are added one by one. Where
+all unknowns are 0 the costs are least from the start, so there is no first phase, and each row that is added later
+keeps it so."""
 from fractions import Fraction
 
 
 class LinearProgram:
-    """Rows: a basic variable has a row (value, {other variable: factor}). Columns are named 0, 1, .. and slacks -1, -2,
-    .."""
+    """Unknowns are named 0, 1, ..; one that may be negative is the difference of its column and that of `negative`. A
+    basic column has a row (value, {other column: factor}). Slacks are named -1, -2, .."""
 
     def __init__(self):
-        self.costs, self.rows, self.count, self.pivots = {}, {}, 0, 0
+        self.costs, self.rows, self.negative, self.count, self.slacks = {}, {}, {}, 0, 0
 
-    def column(self, cost):
-        """The name of a new variable, which is at least 0."""
+    def unknown(self, cost, is_positive=True):
+        """The name of a new unknown, which may be negative unless `is_positive`."""
         name = self.count
         self.count += 1
         self.costs[name] = Fraction(cost)
+        if not is_positive:
+            self.negative[name] = self.unknown(cost)
         return name
 
     def value(self, name):
-        """The value of a variable at the present vertex."""
-        return self.rows[name][0] if name in self.rows else 0
+        """The value of an unknown at the present vertex."""
+        value = self.rows[name][0] if name in self.rows else 0
+        return value - self.value(self.negative[name]) if name in self.negative else value
 
     def add(self, terms, constant):
-        """Adds the row `terms + constant >= 0`, whose terms are over columns."""
+        """Adds the row `terms + constant >= 0`."""
         found, total = {}, Fraction(constant)
-        for name, factor in terms.items():
-            if name in self.rows:
-                base, inner = self.rows[name]
-                total += factor * base
-                for other, part in inner.items():
-                    found[other] = found.get(other, 0) + factor * part
-            else:
-                found[name] = found.get(name, 0) + factor
-        self.count += 1
-        self.rows[-self.count] = (total, {name: factor for name, factor in found.items() if factor})
+        for name, factor in [*terms.items(), *((self.negative[n], -terms[n]) for n in terms if n in self.negative)]:
+            base, inner = self.rows.get(name, (0, {name: 1}))
+            total += factor * base
+            add_multiple(found, factor, inner)
+        self.slacks -= 1
+        self.rows[self.slacks] = (total, found)
 
     def forget(self):
         """Drops the rows that do not bind."""
@@ -44,31 +44,28 @@ class LinearProgram:
 
     def solve(self, is_late=lambda: False):
         """Returns whether there is a solution, whose values are then those of `value`; None where `is_late` says so."""
-        while True:
-            worst, leaving = 0, None
-            for name, (base, terms) in self.rows.items():
-                if base < 0:
-                    size = float(base) / (sum(abs(float(factor)) for factor in terms.values()) + 1e-9)
-                    if leaving is None or size < worst:
-                        worst, leaving = size, name
-            if leaving is None:
-                return True
+        while broken := [(self.distance(row), name) for name, row in self.rows.items() if row[0] < 0]:
             if is_late():
                 return None
+            leaving = min(broken)[1]
             terms = self.rows[leaving][1].items()
             ratios = [(self.costs.get(name, 0) / factor, name) for name, factor in terms if factor > 0]
             if not ratios:
                 return False
             self.pivot(leaving, min(ratios)[1])
+        return True
+
+    @staticmethod
+    def distance(row):
+        """How far a row is from being kept, in floats."""
+        return float(row[0]) / (sum(abs(float(factor)) for factor in row[1].values()) + 1e-9)
 
     def pivot(self, leaving, entering):
-        """Exchanges a basic variable and one that is not."""
-        self.pivots += 1
+        """Exchanges a basic column and one that is not."""
         base, terms = self.rows.pop(leaving)
         inverse = 1 / Fraction(terms.pop(entering))
-        row = {name: -factor * inverse for name, factor in terms.items()}
+        row, at = {name: -factor * inverse for name, factor in terms.items()}, -base * inverse
         row[leaving] = inverse
-        at = -base * inverse
         for name, (base, terms) in list(self.rows.items()):
             part = terms.pop(entering, None)
             if part is not None:

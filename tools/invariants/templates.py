@@ -1,46 +1,33 @@
-"""Templates of invariants: a decision tree over tables of variables and conditions, with a linear sum in each leaf."""
-import functools
+"""Templates of invariants: a decision tree over conditions, with a linear sum in each leaf. A table of a variable is a
+row of conditions, as `x <= 0`, `x <= 1`."""
 import typing
 from fractions import Fraction
 
-from invariants.expressions import Failed, compiled, number, variable
+from invariants.expressions import Failed, compiled, joined, number
 from invariants.model import of_number
 
-MOST_CELLS, MOST_VALUE, LONG_TABLE = 400, 200, 90
+MOST_CELLS = 400
 
 
 class Feature(typing.NamedTuple):
-    """A summand: its expression (None for the constant), its value in a state, its cost, and its table variable."""
+    """A summand: its expression (None for the constant), its value in a state, and its cost."""
 
     expression: object
     value: object
     cost: Fraction
-    name: object = None
-
-
-class Table(typing.NamedTuple):
-    """A variable with values that are told apart; an open one has a last row for all larger ones."""
-
-    name: str
-    values: list
-    is_open: bool = False
 
 
 class Shape(typing.NamedTuple):
-    """What a template is made of: conditions and facts are expressions. Outside the facts nothing is claimed; a closed
-    shape claims nothing where no row of the tables was sampled; a whole one is not the post where the loop is left."""
+    """What a template is made of: tests and facts are conditions. Outside the facts nothing is claimed; a closed shape
+    claims nothing in a leaf that was not sampled; a whole one is not the post where the loop is left. The variables in
+    `listed` have a table, which fixes their values."""
 
     is_whole: bool
-    tables: list
-    conditions: list
+    tests: list
+    listed: set
     features: list
     facts: list
     is_closed: bool
-
-
-def joined(mark, parts):
-    """Expressions joined by an operator."""
-    return functools.reduce(lambda a, b: (mark, a, b), parts)
 
 
 def multiple(factor, expression):
@@ -65,34 +52,35 @@ def summed(terms):
 
 
 class Template:
-    """A template of a shape for a loop; `coefficient(cost, is_positive)` gives a new unknown. `allowed` has the rows of
-    the tables in which something is claimed."""
+    """A template of a shape for a loop; `unknown(cost, is_positive)` gives a new unknown. `cells` has the summands of
+    each leaf with their unknowns, and `allowed` the leaves of a closed shape."""
 
-    def __init__(self, loop, model, shape, coefficient):
-        self.loop, self.model, self.shape, self.coefficient = loop, model, shape, coefficient
-        self.facts = [(fact, compiled(fact, loop.types)[1]) for fact in shape.facts]
-        self.conditions = [compiled(condition, loop.types)[1] for condition in shape.conditions]
+    def __init__(self, loop, model, shape, unknown):
+        self.loop, self.model, self.shape, self.unknown = loop, model, shape, unknown
+        self.facts = [(fact, compiled(fact, loop.types)) for fact in shape.facts]
+        self.tests = [compiled(test, loop.types) for test in shape.tests]
+        self.nothing = ("infinity",) if model.is_upper else number(0)
         self.cells, self.has_exit = {}, loop.is_last and not shape.is_whole
-        self.allowed = {self.row_of(state) for state in loop.met.values()} - {None} if shape.is_closed else None
+        self.allowed = set(map(self.key, loop.met.values())) if shape.is_closed else None
 
-    def row_of(self, state):
-        """The values of the table variables, or None where one has no row."""
-        found = []
-        for name, values, is_open in self.shape.tables:
-            value = state[name]
-            if value not in values:
-                if not (is_open and value > values[-1]):
-                    return None
-                value = "more"
-            found.append(value)
-        return tuple(found)
+    def key(self, state):
+        """The leaf of a state."""
+        return tuple(test(state) for test in self.tests)
 
     def holds(self, state):
         """Whether something is claimed of a state."""
         if not all(holds(state) for _, holds in self.facts):
             return False
-        row = self.row_of(state)
-        return row is not None and (self.allowed is None or row in self.allowed)
+        return self.allowed is None or self.key(state) in self.allowed
+
+    def admit(self, state):
+        """Drops the facts that a state breaks, and allows its leaf. Returns whether this changes the template."""
+        facts, is_new = [fact for fact in self.facts if fact[1](state)], False
+        if self.allowed is not None:
+            is_new = self.key(state) not in self.allowed
+            self.allowed.add(self.key(state))
+        is_changed, self.facts = is_new or len(facts) < len(self.facts), facts
+        return is_changed
 
     def is_exit(self, state):
         """Whether the template is the post in a state, after the loop."""
@@ -103,80 +91,45 @@ class Template:
             return None if self.model.is_upper else {}
         if self.is_exit(state):
             return of_number(self.model.post(state))
-        key = self.row_of(state) + tuple(holds(state) for holds in self.conditions)
+        key = self.key(state)
         if key not in self.cells:
             self.cells[key] = self.new_cell(key)
-        return {column: value for column, feature in self.cells[key] for value in [feature.value(state)] if value}
+        return {name: value for name, feature in self.cells[key] for value in [feature.value(state)] if value}
 
     def new_cell(self, key):
-        """The unknowns of a leaf: pairs of column and feature."""
+        """The summands of a leaf: pairs of an unknown and a feature."""
         if len(self.cells) >= MOST_CELLS:
             raise Failed(f"more than {MOST_CELLS} cases")
-        fixed = {table.name for table, value in zip(self.shape.tables, key) if value != "more"}
-        used = [feature for feature in self.shape.features if feature.name not in fixed]
-        return [(self.coefficient(feature.cost, len(used) == 1), feature) for feature in used]
+        fixed = [test[1] for test, holds in zip(self.shape.tests, key) if holds and self.is_row(test)]
+        used = [feature for feature in self.shape.features if feature.expression not in fixed]
+        return [(self.unknown(feature.cost, len(used) == 1), feature) for feature in used]
 
     def expression(self):
         """The template with the present coefficients."""
-        nothing = ("infinity",) if self.model.is_upper else number(0)
-        candidate, post, guard = self.model.candidate, self.model.post_expression, self.loop.guard
-        leaves = {key: summed([(candidate.get(column, 0), feature.expression) for column, feature in cell])
+        values, post, guard = self.model.candidate, self.model.post_expression, self.loop.guard
+        leaves = {key: summed([(values.get(name, 0), feature.expression) for name, feature in cell])
                   for key, cell in self.cells.items()}
-        found = self.tree(0, list(leaves), leaves, nothing) if leaves else nothing
+        found = self.tree(list(leaves), leaves) if leaves else self.nothing
         if self.has_exit and found != post and guard != ("truth", True):
             found = ("ite", guard, found, post)
-        return ("ite", joined("&&", [fact for fact, _ in self.facts]), found, nothing) if self.facts else found
+        facts = [fact for fact, _ in self.facts]
+        return ("ite", joined("&&", facts), found, self.nothing) if facts else found
 
-    def tree(self, level, keys, leaves, nothing):
-        """The tree over the leaves with these keys, from a level on."""
-        tables, conditions = self.shape.tables, self.shape.conditions
-        if level == len(tables) + len(conditions):
+    def is_row(self, test):
+        """Whether a condition is a row of a table."""
+        return test[0] == "<=" and test[2][0] == "number" and test[1][1] in self.shape.listed
+
+    def tree(self, keys, leaves, level=0, fixed=()):
+        """The tree over the leaves with these keys, from a level on, where the tables of some variables are done."""
+        if level == len(self.tests):
             return leaves[keys[0]]
-        groups = {}
-        for key in keys:
-            groups.setdefault(key[level], []).append(key)
-        sides = {value: self.tree(level + 1, group, leaves, nothing) for value, group in groups.items()}
-        if level < len(tables) and self.loop.types[tables[level].name] != "Bool":
-            return self.chain(tables[level].name, sides, nothing)
-        test = variable(tables[level].name) if level < len(tables) else conditions[level - len(tables)]
-        missing = nothing if level < len(tables) and self.allowed is not None else None
-        yes, no = sides.get(True, missing), sides.get(False, missing)
-        if yes is None or no is None or yes == no:
-            return yes or no
+        test, sides = self.shape.tests[level], [[key for key in keys if key[level] == holds] for holds in (True, False)]
+        is_row = self.is_row(test)
+        if is_row and test[1] in fixed or self.allowed is None and not all(sides):
+            return self.tree(keys, leaves, level + 1, fixed)
+        done = (*fixed, test[1]) if is_row else fixed
+        yes, no = (self.tree(side, leaves, level + 1, inner) if side else self.nothing
+                   for side, inner in zip(sides, (done, fixed)))
+        if yes == no or is_row and no[0] == "ite" and no[1][:2] == test[:2] and no[2] == yes:
+            return no
         return ("ite", test[1], no, yes) if test[0] == "!" else ("ite", test, yes, no)
-
-    def may_matter(self, name, values):
-        """Whether a closed shape has to exclude these values: the guard may hold there, or the loop is left in the
-        sum."""
-        states = list(self.loop.pool.values())[:80]
-        is_inside = any(self.loop.holds({**state, name: value}) for state in states for value in values)
-        return self.allowed is not None and (not self.has_exit or is_inside)
-
-    def chain(self, name, sides, nothing):
-        """A chain of `ite` over the values of a number; in a closed shape nothing is claimed of the other values."""
-        rows, last, before = [], sides.pop("more", None), None
-        for value in sorted(sides):
-            is_gap = value > 0 or self.loop.types[name] == "Int" if before is None else value > before + 1
-            if is_gap and self.may_matter(name, range(max(value - 3, 0) if before is None else before + 1, value)):
-                rows.append((value - 1, nothing))
-            rows.append((value, sides[value]))
-            before = value
-        if last is None and self.may_matter(name, (before + 1, before + 2, before + 3, 1000)):
-            last = nothing
-        merged = []
-        for value, part in rows:
-            merged[-1:] = [(value, part)] if merged and merged[-1][1] == part else merged[-1:] + [(value, part)]
-        if last is None or merged and merged[-1][1] == last:
-            last = merged.pop()[1]
-        return halved(name, merged, last)
-
-
-def halved(name, rows, last):
-    """A table of rows (value, part), of which the first that the variable is at most counts; long ones in halves."""
-    if len(rows) > LONG_TABLE:
-        value, part = rows[len(rows) // 2]
-        lower, upper = halved(name, rows[:len(rows) // 2], part), halved(name, rows[len(rows) // 2 + 1:], last)
-        return ("ite", ("<=", variable(name), number(value)), lower, upper)
-    for value, part in reversed(rows):
-        last = ("ite", ("<=", variable(name), number(value)), part, last)
-    return last
