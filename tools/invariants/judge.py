@@ -15,16 +15,15 @@ class Judge:
     def __init__(self, program, longest):
         self.program, self.longest, self.calls = program, longest, 0
 
-    def run(self, command, text, *arguments, seconds=None, script=None):
+    def run(self, command, text, *arguments, seconds=None, script=""):
         """The status and the output of a command on a text, and on a script after the arguments."""
         self.calls += 1
         with tempfile.TemporaryDirectory() as folder:
-            for name, content in (("file.heyvl", text), ("file.script", script or "")):
+            for name, content in (("file.heyvl", text), ("file.script", script)):
                 with open(os.path.join(folder, name), "wb") as file:
                     file.write(calls.encoded(content))
-            words = [command, "file.heyvl", *arguments, *(["file.script"] if script else [])]
-            seconds = max(self.longest if seconds is None else seconds, 0.2)
-            answer = calls.call(self.program, words, folder, seconds)
+            words = [command, "file.heyvl", *arguments, *["file.script"] * bool(script)]
+            answer = calls.call(self.program, words, folder, max(self.longest if seconds is None else seconds, 0.2))
         return answer if answer.status is not None else calls.Answer(None, "unknown (bound): time")
 
     def verdicts(self, text, seconds):
@@ -51,9 +50,8 @@ def is_accepted(verdict):
 def state_of(verdict):
     """The state in a verdict: the number of the loop that it is about, or 0; the values of variables; those of
     choices."""
-    about = re.search(r"invariant of loop (\d+)", verdict)
+    about, marked = re.search(r"invariant of loop (\d+)", verdict), {}
     plain, choices = evaluate.read_state(verdict.partition(": ")[2])
-    marked = {}
     for (name, _), value in choices.items():
         marked.setdefault(name, []).append(value)
     return int(about[1]) if about else 0, plain, marked

@@ -10,9 +10,10 @@ from invariants.model import Model, loops_of
 from invariants.refuting import scripts
 from invariants.samples import expressions_of
 from invariants.search import Search
-from invariants.source import Source, may_have_ranking, original
+from invariants.source import Source, may_have_ranking
 
-FOUND, BROKEN, NONE, FAULT = range(4)
+FOUND, NONE, BROKEN, FAULT = range(4)
+STATUSES = [0, 2, 1]
 FINAL, MOST_REFUTED = 20, 3
 
 
@@ -22,126 +23,97 @@ class Proposer:
 
     def __init__(self, text, program, options, tell, show, say):
         self.judge, self.options = Judge(program, max(options.seconds / 5, 1)), options
-        self.tell, self.show, self.say, self.statuses = tell, show, say, {}
-        status, output = self.judge.run("print", text, seconds=FINAL)
-        if status != 0:
-            self.refuse(output, status)
+        self.tell, self.show, self.say, self.results = tell, show, say, {}
+        self.refuse(self.judge.run("print", text, seconds=FINAL), (0,))
         procedures = [procedure.name for procedure in heyvl.read(text)]
         for name in options.procedures:
             if name not in procedures:
-                self.refuse(f"no such procedure: {name}")
+                self.refuse(calls.Answer(FAULT, f"no such procedure: {name}"))
         words = ("invariant", "k_induction") * options.replace + ("ranking",) * (options.replace and options.ranking)
         self.source = Source(text, options.procedures or procedures, words)
-        self.refuse_fault()
+        answer = self.judge.run("verify", self.source.edited(only="")[0])
+        fault = calls.fault(answer.output)
+        self.refuse(calls.Answer(FAULT, self.source.placed(fault)) if fault else answer, (0, 1, 2, None))
 
-    def refuse(self, output, status=FAULT):
-        """Ends with what the program reports of the file."""
-        reason = output.strip() or f"the program ended with status {status}"
-        raise calls.Refusal(f"{self.options.file}: {reason}", FAULT)
-
-    def refuse_fault(self):
-        """Ends with the fault of the text with its holes filled, at its place in the file."""
-        text, edits = self.source.edited(only="")
-        status, output = self.judge.run("verify", text)
-        found = calls.fault(output)
-        if found:
-            start = sum(len(line) + 1 for line in text.split("\n")[:found[0] - 1])
-            within = len(calls.decoded(calls.encoded(text[start:])[:found[1] - 1]))
-            self.refuse(f"{self.source.line_column(original(edits, start + within))}: {found[2]}")
-        if status not in (0, 1, 2, None):
-            self.refuse(output, status)
+    def refuse(self, answer, good=()):
+        """Ends with what the program reports of the file, unless the status is a good one."""
+        if answer.status not in good:
+            reason = answer.output.strip() or f"the program ended with status {answer.status}"
+            raise calls.Refusal(f"{self.options.file}: {reason}", FAULT)
 
     def run(self):
         """The status, and the text with what was found, which `verify` accepts, or None."""
         for procedure in self.source.ordered(self.options.procedures):
             if self.source.is_open(procedure):
-                self.guarded(self.propose, procedure)
+                self.guarded(procedure)
             for at, loop in enumerate(loops_of(procedure.body), 1) if self.options.ranking else ():
-                if "ranking" not in loop[1] and may_have_ranking(loop):
-                    self.guarded(self.rank, procedure, at, loop)
-        if not self.statuses:
+                if may_have_ranking(loop):
+                    self.guarded(procedure, at)
+        if not self.results:
             self.tell("nothing to propose: each loop has its rules (--replace proposes anew)")
-        status = max(self.statuses.values(), key=[FOUND, NONE, BROKEN].index, default=FOUND)
-        if status != FOUND:
-            return status, None
+        result = max(self.results.values(), default=FOUND)
+        if result != FOUND:
+            return STATUSES[result], None
         text, self.judge.longest = self.source.edited()[0], max(self.options.seconds, FINAL)
         found, reason = self.judge.verdicts(text, self.judge.longest)
-        wrong = [pair for pair in found.items() if pair[0][0] in self.statuses and not is_accepted(pair[1])]
-        for (name, _), verdict in wrong or [((name, ""), reason) for name in self.statuses if not found]:
+        wrong = {name: said for (name, _), said in found.items() if name in self.results and not is_accepted(said)}
+        for name, verdict in wrong.items() if found else [("the file", reason)]:
             self.tell(f"{name}: {verdict}")
-        return (FOUND, text) if found and not wrong else (NONE, None)
+        return (STATUSES[NONE], None) if wrong or not found else (STATUSES[FOUND], text)
 
-    def guarded(self, work, procedure, *arguments):
-        """Notes the status of a work; tells what the proposer does not read, or finds too large."""
-        name, status = procedure.name, NONE
+    def guarded(self, procedure, ranked=None):
+        """Proposes, and notes what came of it; tells what the proposer does not read, or finds too large."""
+        name, result = procedure.name, NONE
         try:
-            status = work(procedure, *arguments)
+            result = self.propose(procedure, ranked)
         except Failed as reason:
             self.tell(f"{name}: none found: {reason}")
         except (RecursionError, MemoryError, OverflowError):
             self.tell(f"{name}: none found: the procedure is too large")
-        self.statuses[name] = max(status, self.statuses.get(name, FOUND), key=[FOUND, NONE, BROKEN].index)
+        self.results[name] = max(result, self.results.get(name, FOUND))
 
-    def search(self, procedure, model, edited, loop=None):
-        """A search, and what it found; `edited(found)` gives the text that is judged."""
-        begin = time.time()
-
-        def verdict_on(found):
-            self.show(f"{procedure.name}: proposal {self.judge.calls}, {time.time() - begin:.0f} s")
-            return self.judge.verdict(edited(found)[0], procedure.name, begin + self.options.seconds, loop)
-        search = Search(model, verdict_on, self.options.seconds, self.options.seed, self.say)
-        return search, search.run()
-
-    def propose(self, procedure):
-        """Proposes invariants for the loops of a procedure, and its bound where that is asked for."""
-        name, model = procedure.name, Model(self.source.file, procedure)
+    def propose(self, procedure, ranked):
+        """Proposes invariants for the loops of a procedure, and its bound where that is asked for; or a ranking for the
+        loop of a number."""
+        name, begin, model = procedure.name, time.time(), Model(self.source.file, procedure, ranked)
         if model.has_hole and not (procedure.is_upper or procedure.is_weak):
             raise Failed("`pre _` is for a coproc, or a proc with @wlp")
 
-        def edited(found):
-            rules = {model.loops[at].start: [f"@invariant({shown(part)})"] for at, part in found.items() if at}
-            return self.source.edited(rules, {name: shown(found[0])} if 0 in found else {}, name)
-        search, found = self.search(procedure, model, edited)
+        def verdict_on(found):
+            self.show(f"{name}: proposal {self.judge.calls}, {time.time() - begin:.0f} s")
+            text = self.source.edited(self.source.texts(procedure, found, ranked), name)[0]
+            return self.judge.verdict(text, name, begin + self.options.seconds, ranked)
+        search = Search(model, verdict_on, self.options.seconds, self.options.seed, self.say)
+        found = search.run()
         if found is None:
-            return self.failed(procedure, search)
+            return BROKEN if procedure.is_upper and self.is_refuted(name, search) else self.failed(procedure, search)
         for at, part in sorted(found.items()):
             place = f"loop {at} at {self.source.line_column(model.loops[at].start)}:" if at else "pre"
-            self.tell(f"{name}: {place} {shown(part)}")
-        self.source.keep(procedure, found)
+            self.tell(f"{name}: {place} {'ranking ' * bool(ranked)}{shown(part)}")
+        self.source.keep(procedure, found, ranked)
         return FOUND
 
-    def rank(self, procedure, at, loop):
-        """Proposes a ranking for a loop."""
-        def rules(found):
-            return {loop.start: [*self.source.rules.get(loop.start, ()), f"@ranking(1, {shown(found[at])})"]}
-        def edited(found):
-            return self.source.edited(rules(found), {}, procedure.name)
-        search, found = self.search(procedure, Model(self.source.file, procedure, at), edited, at)
-        if found is None:
-            return self.failed(procedure, search, f"ranking of loop {at}: ")
-        self.tell(f"{procedure.name}: loop {at} at {self.source.line_column(loop.start)}: ranking {shown(found[at])}")
-        self.source.rules.update(rules(found))
-        return FOUND
-
-    def failed(self, procedure, search, what=""):
-        """Reports why nothing was found: an input that breaks the bound, as far as `refute` agrees, or what was
-        tried."""
-        name, suspects = procedure.name, search.suspects[:MOST_REFUTED]
-        until = time.time() + search.seconds / 10
-        for script in scripts(search.model, [state for state, _, _ in suspects]) if procedure.is_upper else ():
+    def is_refuted(self, name, search):
+        """Whether `refute` shows that the bound is false at an input that is suspected, and reports that."""
+        until, text = time.time() + search.seconds / 10, self.source.edited(only="")[0]
+        for script in scripts(search.model, [state for state, _, _ in search.suspects[:MOST_REFUTED]]):
             if (seconds := min(self.judge.longest, until - time.time())) <= 0:
                 break
-            text = self.source.edited(only="")[0]
             status, output = self.judge.run("refute", text, name, script=script, seconds=seconds)
             if status == 1:
                 claim, steps = output.strip().partition(": ")[2], output.partition(" at step ")[2].partition(":")[0]
-                lines = script.splitlines()
+                lines = script.splitlines()[1:]
                 decided = [line for line in lines if line.startswith("decide")][:int(steps)]
                 lines = [f"steps {steps}", *(line for line in lines if line.startswith("set")), *decided]
                 self.tell("\n".join([f"{name}: the bound is false: {claim}, by the script", *lines]))
-                return BROKEN
-        if suspects:
-            state, value, bound = suspects[0]
+                return True
+        return False
+
+    def failed(self, procedure, search):
+        """Reports why nothing was found: an input at which iterations break the bound, or what was tried."""
+        name, what = procedure.name, f"ranking of loop {search.model.ranked}: " * bool(search.model.ranked)
+        if search.suspects:
+            state, value, bound = search.suspects[0]
             values = ", ".join(f"{x} = {str(value).lower()}" for x, value in state.items()) or "any state"
             given = f"{'at least' if procedure.is_upper else 'at most'} {value:.6g}"
             given = f"from {values} iterations give {given}, and the pre is {bound}"

@@ -1,4 +1,4 @@
-"""Shorter invariants: parts are left out, and fractions are replaced by simpler ones, while `verify` accepts the result."""
+"""Shorter invariants: parts are left out, and fractions become simpler ones, while `verify` accepts the result."""
 import math
 import time
 from fractions import Fraction
@@ -25,13 +25,12 @@ def shorter(expression):
 
 def simpler(dividend, divisor):
     """Fractions near `n/divisor`, or near this multiple of a summand, with shorter numbers; the nearest first."""
-    is_multiple = dividend[0] == "*" and dividend[1][0] == "number"
-    if not is_multiple and dividend[0] != "number":
+    factor, atom = dividend[1:] if dividend[0] == "*" else (dividend, None)
+    if factor[0] != "number":
         return
-    factor, atom = (dividend[1][1], dividend[2]) if is_multiple else (dividend[1], None)
-    value = factor / divisor
+    value = factor[1] / divisor
     near = {Fraction(side(value * small), small) for small in DENOMINATORS for side in (math.floor, math.ceil)}
-    near = [other for other in near if 0 < other and len(str(other)) < len(f"{factor}/{divisor}")]
+    near = [other for other in near if 0 < other and len(str(other)) < len(f"{factor[1]}/{divisor}")]
     for other in sorted(near, key=lambda other: abs(other - value))[:MOST_NEAR]:
         yield multiple(other, atom)
 

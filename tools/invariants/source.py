@@ -2,10 +2,11 @@
 else alone."""
 import re
 
+import calls
 import goals
 import heyvl
-from invariants.expressions import shown, variable
-from invariants.model import loops_of
+from invariants.expressions import shown
+from invariants.model import is_hole, loops_of
 
 AFTER_RULE = re.compile(r"[ \t]*(?:\r?\n[ \t]*)?")
 
@@ -15,23 +16,23 @@ def has_invariant(loop):
 
 
 def may_have_ranking(loop):
-    """Whether the body of a loop has nothing that a ranking excludes."""
-    return not any(s[0] in ("while", "call", "check", "validate") for s in goals.statements_of(loop[3]))
+    """Whether a loop has no ranking, and its body nothing that a ranking excludes."""
+    kinds = {statement[0] for statement in goals.statements_of(loop[3])}
+    return "ranking" not in loop[1] and not kinds & {"while", "call", "check", "validate"}
 
 
 class Source:
-    """A file. `rules` has the rules that were found, by the places of their loops, and `bounds` the pre clauses, by the
-    names of their procedures; of the procedures in `replaced` the rules of these words are `removed`."""
+    """A file. `found` has what was found, by places: the rules of loops, and bounds in the place of `holes`, the pre
+    clauses `_`; of the procedures in `replaced` the rules of these words are `removed`."""
 
     def __init__(self, text, replaced=(), words=()):
-        self.text, self.file, self.rules, self.bounds, self.removed = text, heyvl.read(text), {}, {}, []
+        self.text, self.file, self.found, self.removed = text, heyvl.read(text), {}, []
         for procedure in self.file:
             for loop in loops_of(procedure.body or []) if procedure.name in replaced else ():
                 for rule in [rule for rule in loop.rules if rule[0] in words]:
                     self.removed.append((rule.start, AFTER_RULE.match(text, rule.end).end(), ""))
                     del loop[1][rule[0]]
-        self.holes = {procedure.name: procedure.pres[0] for procedure in self.file
-                      if procedure.pres == [variable("_")] and "_" not in dict(procedure.inputs)}
+        self.holes = {procedure.name: procedure.pres[0] for procedure in self.file if is_hole(procedure)}
 
     def ordered(self, names):
         """The procedures of these names, or all, with a body, each after those that it calls."""
@@ -55,47 +56,63 @@ class Source:
         """A place as the program writes places."""
         return "%d:%d" % heyvl.line_column(self.text, place)
 
-    def keep(self, procedure, found):
-        """Takes invariants, by the numbers of their loops, and the bound, which has number 0, as given from here on."""
+    def texts(self, procedure, found, ranked):
+        """What is written, by places, for invariants, by the numbers of their loops, and for the bound, which has
+        number 0; or for the ranking of the loop of a number."""
+        written, rule = {}, "@ranking(1, %s)" if ranked else "@invariant(%s)"
         for number, loop in enumerate(loops_of(procedure.body), 1):
             if number in found:
-                self.rules[loop.start] = [f"@invariant({shown(found[number])})"]
-                loop[1]["invariant"] = [found[number]]
+                written[loop.start] = self.found.get(loop.start, "") + self.line(loop, rule % shown(found[number]))
         if 0 in found:
-            self.bounds[procedure.name] = shown(found[0])
+            written[self.holes[procedure.name].start] = shown(found[0])
+        return written
+
+    def keep(self, procedure, found, ranked):
+        """Takes what was found as given from here on."""
+        self.found.update(self.texts(procedure, found, ranked))
+        for number, loop in enumerate(loops_of(procedure.body), 1):
+            if number in found:
+                loop[1]["ranking" if ranked else "invariant"] = [found[number]]
+        if 0 in found:
             procedure.pres[:] = [found[0]]
 
-    def edited(self, rules=None, bounds=None, only=None):
-        """The text with rules and bounds, and the edits. With `only`, the name of a procedure, the other bodies are
+    def edited(self, found=(), only=None):
+        """The text with what was found, and the edits. With `only`, the name of a procedure, the other bodies are
         blank, and what always holds is written where nothing was found."""
-        rules, bounds, edits = {**self.rules, **(rules or {})}, {**self.bounds, **(bounds or {})}, list(self.removed)
+        found, edits = {**self.found, **dict(found)}, list(self.removed)
         for procedure in self.file:
             nothing = "\\infty" if procedure.is_upper else "0"
             if only not in (None, "", procedure.name) and procedure.body is not None:
                 start, end = procedure.body.start, procedure.body.end
                 edits.append((start, end, re.sub(r"[^\n]", " ", self.text[start:end])))
             for loop in loops_of(procedure.body or []):
-                texts = list(rules.get(loop.start, ()))
-                if only is not None and not has_invariant(loop) and not any(t.startswith("@invariant") for t in texts):
-                    texts.insert(0, f"@invariant({nothing})")
-                if texts:
-                    edits.append((loop.start, loop.start, self.lines(loop, texts)))
-            if procedure.name in self.holes and (procedure.name in bounds or only is not None):
-                clause = self.holes[procedure.name]
-                edits.append((clause.start, clause.end, bounds.get(procedure.name, nothing)))
-        edits, found, at = sorted(edits), [], 0
+                text = found.get(loop.start, "")
+                if only is not None and not has_invariant(loop) and not text.startswith("@invariant"):
+                    text = self.line(loop, f"@invariant({nothing})") + text
+                edits.append((loop.start, loop.start, text))
+            clause = self.holes.get(procedure.name)
+            if clause and (clause.start in found or only is not None):
+                edits.append((clause.start, clause.end, found.get(clause.start, nothing)))
+        edits, parts, at = sorted(edits), [], 0
         for start, end, text in edits:
             if start >= at:
-                found += [self.text[at:start], text]
+                parts += [self.text[at:start], text]
                 at = end
-        return "".join([*found, self.text[at:]]), edits
+        return "".join([*parts, self.text[at:]]), edits
 
-    def lines(self, loop, texts):
-        """Rules before a loop: each on a line of its own where the loop begins one."""
-        line = self.text.rfind("\n", 0, loop.start) + 1
-        margin = self.text[line:loop.start]
-        line_end = "\r\n" if self.text[max(line - 2, 0):line] == "\r\n" else "\n"
-        return "".join(text + (" " if margin.strip() else line_end + margin) for text in texts)
+    def line(self, loop, rule):
+        """A rule before a loop: on a line of its own where the loop begins one."""
+        start = self.text.rfind("\n", 0, loop.start) + 1
+        margin, line_end = self.text[start:loop.start], "\r\n" if self.text[:start].endswith("\r\n") else "\n"
+        return rule + (" " if margin.strip() else line_end + margin)
+
+    def placed(self, fault):
+        """The line of a fault of the text with holes filled, at its place in the file."""
+        text, edits = self.edited(only="")
+        line, column, cause = fault
+        start = sum(len(line) + 1 for line in text.split("\n")[:line - 1])
+        within = len(calls.decoded(calls.encoded(text[start:])[:column - 1]))
+        return f"{self.line_column(original(edits, start + within))}: {cause}"
 
 
 def original(edits, place):
