@@ -30,9 +30,17 @@ class Checks:
         """Counts something that has to be so."""
         self.equal(name, "so", "so" if is_so else f"not so {why}")
 
-    def skip(self, count, why):
-        """Counts comparisons that can't be made here."""
-        self.skipped.append((count, why))
+    def part(self, count, missing, work, *others):
+        """Makes comparisons, or skips them where something is missing; reports a count that is not that of them."""
+        if missing:
+            self.skipped.append((count, missing))
+            return
+        before = self.passed + self.failed
+        work(self, *others)
+        made = self.passed + self.failed - before
+        if made != count:
+            self.failed += 1
+            print(f"{work.__name__}: would skip {count} comparisons, and has made {made}")
 
     def environment(self):
         """Returns the variables of a tool's call."""
