@@ -3,15 +3,15 @@ import conditions
 import evaluate
 import heyvl
 from expressions import variables_of
+from obligations import NOTHING
 
 CHANGES = {
-    "start": "{raise} the pre, or {lower} the bound that is met first",
-    "bound": "{raise} the pre, or change the body",
-    "iteration": "{raise} the invariant in this state, {lower} it where the iteration leads, or take more copies by @k_induction",
-    "exit": "{raise} the invariant where the guard does not hold",
-    "call": "{raise} the post of the called procedure",
+    "bound": "{up} the pre",
+    "iteration": "{up} the invariant in this state, {down} it where the iteration leads, or take more copies by @k_induction",
+    "exit": "{up} the invariant in this state",
+    "call": "{up} the post of the called procedure",
     "ranking": "raise the ranking in this state, or lower its step",
-    "weak": "a proc with @wlp bounds probabilities: no formula of it is above 1",
+    "weak": "lower it: a proc with @wlp bounds probabilities, so no formula of it may be above 1",
 }
 SIDES = {"bound": "the pre", "iteration": "the invariant", "exit": "the invariant", "ranking": "the ranking"}
 MOST_ENDS = 8
@@ -54,8 +54,19 @@ class Failure:
             ends = list(self.ends()) if sides.is_sum else []
             yield f"{side} is {stated}, but has to be at {'least' if obligation.is_upper else 'most'} {found}{':' * bool(ends)}"
             yield from ends
-        words = {"raise": "raise", "lower": "lower"} if obligation.is_upper else {"raise": "lower", "lower": "raise"}
-        yield "change: " + CHANGES["start" if obligation.label == "start" else obligation.kind].format(**words)
+        yield from self.changes()
+
+    def changes(self):
+        """Yields what would make the obligation true."""
+        kind, is_upper = self.obligation.kind, self.obligation.is_upper
+        up, down = ("raise", "lower") if is_upper else ("lower", "raise")
+        change = CHANGES[kind].format(up=up, down=down)
+        if kind in ("bound", "exit", "call"):
+            bounds = dict.fromkeys(end.label.partition(" (")[0] for end in self.sides.ends if end.label != "the post")
+            change += f", or {down} {' or '.join(bounds)}" if bounds else ", or change the body" * (kind == "bound")
+        yield f"change: {change}"
+        if kind in ("iteration", "exit") and self.obligation.known:
+            yield f"or: if no run reaches this state, let the invariant be {NOTHING[is_upper].text()} in it"
 
     def state(self):
         """Returns the values of the variables, then those of the inputs, then earlier values on which the state depends."""

@@ -99,6 +99,7 @@ class Decomposition:
         self.loops, self.scopes, self.calls = [s for s in statements if s[0] == "while"], {}, 0
         for number, loop in enumerate(self.loops, 1):
             loop.number, loop.label = number, f"the invariant of loop {number} ({source.position(loop.start)})"
+        self.has_calls = any(s[0] == "call" for s in statements)
         for call in (s for s in statements if s[0] == "call"):
             call.label = f"the pre of {call[2]} ({source.position(call.start)})"
 
@@ -125,9 +126,11 @@ class Decomposition:
     def bound(self):
         """Adds the claim on the pre."""
         procedure, reached = self.procedure, assigned(self.procedure.body)[1]
-        is_plain = not has_summaries(procedure.body)
-        claim = f"the pre is at {self.word} what the body gives"
-        claim += "" if is_plain else ", where a loop counts as its invariant and a call as its pre"
+        is_plain, claim = not has_summaries(procedure.body), f"the pre is at {self.word} what the body gives"
+        if not is_plain:
+            loop = ["each loop counts as its invariant"] * bool(self.loops)
+            call = [f"each call{' counts' * (not loop)} as the pre of what it calls"] * self.has_calls
+            claim += f", where {' and '.join(loop + call)}"
         found = Obligation(procedure, "bound", self.place_of("pre"), "bound" if is_plain else "start", claim)
         found.inputs, found.outputs = list(map(tuple, procedure.inputs)), list(map(tuple, procedure.outputs))
         found.hint, found.shown = "start", {name: name for name in self.types}

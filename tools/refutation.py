@@ -10,29 +10,44 @@ import evaluate
 import summaries
 
 STEPS, LARGER, SAME_CHOICES, SECONDS = 200, 2, 12, 300
-LONG = 24
+LONG, SUM = 24, "reward plus post"
 
 
 def lines_on(program, path, procedure, whole, decisions):
     """Returns lines on a coproc whose bound is not shown: whether it is false, and by which script. `whole` is the verdict of `verify`, and
     `decisions` are choices by which the bound is broken in its state, if they are known."""
     answer, script = Runs(program, path, procedure).refuted(whole, decisions)
-    found = re.search(r": violated at step (\d+): (\S+) above (\S+)$", answer.output.strip())
+    output = answer.output.strip()
+    found = re.search(r": violated at step (\d+): (\S+) above (\S+)$", output)
     if found:
-        step, given, pre = found[1], shortened(found[2]), shortened(found[3])
-        head = f"the bound is false: by step {step} runs have given {given}, above the pre {pre}, with the script"
+        given, pre = shortened(found[2]), shortened(found[3])
+        head = f"the bound is false: after {steps(found[1])} {SUM} is {given}, above the pre {pre}, by the script"
         return [head, *("  " + line for line in script.splitlines())]
+    if output.endswith(" is not a program"):
+        return [f"whether runs break the bound is not known: {output}"]
     kinds = {statement[0] for statement in conditions.statements_of(procedure.body)}
     if not kinds.intersection(summaries.SUMMARIES):
         return ["the bound is false: a scheduler who chooses as above breaks it"] if whole.fails else []
     weak = "the invariant" if "while" in kinds else "what the called procedures claim"
-    found = re.search(r": within (\S+) at step (\d+): (\S+)$", answer.output.strip())
+    return [f"the bound may be true, and {weak} too weak: {seen(output, script)}"]
+
+
+def steps(number):
+    return f"{number} step" + "s" * (number != "1")
+
+
+def seen(output, script):
+    """Returns what an answer without a violation says of the runs of a script."""
+    values = ", ".join(f"{name} = {value}" for name, value in re.findall(r"^set (\S+) (\S+)$", script, re.M))
+    start = f" from {values}" * bool(values)
+    found = re.search(r": within (\S+) at step (\d+): (\S+)$", output)
     if found:
-        pre, step, given = shortened(found[1]), found[2], shortened(found[3])
-        reason = f"by step {step} runs have given {given}, not above the pre {pre}"
-    else:
-        reason = f"no run is above the pre ({answer.output.strip() or 'out of time'})"
-    return [f"the bound may be true, and {weak} too weak: {reason}"]
+        pre, given = shortened(found[1]), shortened(found[3])
+        return f"after {steps(found[2])}{start} {SUM} is {given}, not above the pre {pre}"
+    found = re.fullmatch(r"run stopped at step (\d+): (\w+)", output)
+    if found:
+        return f"{SUM}{start} is not above the pre before step {found[1]}, at which the runs stop ({found[2]})"
+    return output or f"the runs{start} take too long"
 
 
 class Runs:
