@@ -26,20 +26,15 @@ class Judge:
             answer = calls.call(self.program, words, folder, max(self.longest if seconds is None else seconds, 0.2))
         return answer if answer.status is not None else calls.Answer(None, "unknown (bound): time")
 
-    def verdicts(self, text, seconds):
-        """The verdicts of `verify`, by the names of procedures twice, or of procedure and loop; and why there are
-        none."""
-        status, output = self.run("verify", text, seconds=min(self.longest, seconds))
+    def verdicts(self, text, end):
+        """The verdicts of `verify` until a time, by the names of procedures twice, or of procedure and loop; and why
+        there are none."""
+        status, output = self.run("verify", text, seconds=min(self.longest, end - time.time()))
         if "fault 3: " in output:
             return {}, "unknown (bound): bits"
         if status in (0, 1, 2):
             return reports.verdicts(output), ""
         return {}, output.strip() if status is None else f"status {status}: {output.strip()}"
-
-    def verdict(self, text, name, end, loop=None):
-        """The verdict on a procedure, or on the ranking of a loop, until a time."""
-        found, reason = self.verdicts(text, end - time.time())
-        return found.get((name, f"loop {loop}" if loop else name), reason)
 
 
 def is_accepted(verdict):

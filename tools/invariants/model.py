@@ -1,6 +1,7 @@
 """A procedure as functions of a state. The value of a state is a linear expression in unknown coefficients: a
 dictionary of factors by column, with the constant under CONSTANT, or None for infinity. Schedulers choose what is best
 for them under the present coefficients."""
+import itertools
 from fractions import Fraction
 
 import goals
@@ -81,16 +82,15 @@ class Loop:
 
 class Model:
     """The loops of a procedure and its entry; with `ranked`, the number of a loop, only its iterations pay, and 1 each.
-    `candidate` has the present coefficients, and `rough` these in floats; `sides` has the rows that calls add; `trace`
-    records the choices of schedulers for `replay`, and `extra` has values for choices."""
+    `candidate` has the present coefficients, and `rough` these in floats; `sides` has the rows that calls add, and
+    `extra` values for choices."""
 
     def __init__(self, file, procedure, ranked=None):
         self.file, self.procedure, self.ranked = file, procedure, ranked
         self.is_upper, self.has_hole = procedure.is_upper or ranked is not None, is_hole(procedure) and ranked is None
-        self.candidate, self.rough, self.sides, self.extra = {}, {}, [], {}
-        self.trace, self.replay, self.seen = [], [], None
+        self.candidate, self.rough, self.sides, self.extra, self.seen = {}, {}, [], {}, None
         types, statements = dict(procedure.inputs + procedure.outputs), loops_of(procedure.body)
-        self.has_choice = any(s[0] in ("pick", "any") for s in goals.statements_of(procedure.body))
+        self.has_choice = any(s[0] in ("pick", "any", "check", "validate") for s in goals.statements_of(procedure.body))
         self.pre_expression = self.clauses([] if is_hole(procedure) else procedure.pres)
         self.post_expression = self.clauses([] if ranked else procedure.posts)
         self.pre, self.post = compiled(self.pre_expression, types), compiled(self.post_expression, types)
@@ -131,11 +131,7 @@ class Model:
 
     def chosen(self, found, is_greatest):
         """The choice of a scheduler."""
-        if self.replay:
-            return found[self.replay.pop()]
-        values = [self.number(terms) for terms in found]
-        self.trace.append(values.index((max if is_greatest else min)(values)))
-        return found[self.trace[-1]]
+        return (max if is_greatest else min)(found, key=self.number)
 
     def through(self, block, types, after):
         """The value of a block as a function of the state, where `after` is the one of what follows."""
@@ -146,8 +142,6 @@ class Model:
             self.used = self.used | variables_of(rest)
         if kind == "declare":
             return self.through(rest, {**types, parts[0]: parts[1]}, after)
-        if kind in ("check", "validate"):
-            raise Failed("a statement that no program has, as `assert`")
         after = self.through(rest, types, after)
         if kind == "while":
             return self.loop(block[0], types, after)
@@ -190,6 +184,24 @@ class Model:
         after, upper = self.through_any(types, after, others) if others else after, self.is_upper
         return lambda s: self.chosen([after({**s, name: v}) for v in self.values(s, name, types[name])], upper)
 
+    def through_check(self, types, after, word, expression):
+        """An `assert` or `assume`, or `co` and one of these: an assert is a choice between its claim and what follows."""
+        value, is_upper = compiled(expression, types), word.startswith("co")
+
+        def checked(state):
+            claimed, found = value(state), after(state)
+            if word.endswith("assert"):
+                return self.chosen([of_number(claimed), found], is_upper)
+            is_met = claimed >= self.number(found) if is_upper else claimed <= self.number(found)
+            return of_number(0 if is_upper else INFINITY) if is_met else found
+        return after if self.ranked else checked
+
+    def through_validate(self, types, after, word):
+        def validated(state):
+            value = self.number(after(state))
+            return of_number((INFINITY if value == INFINITY else 0) if word == "validate" else INFINITY if value else 0)
+        return after if self.ranked else validated
+
     def values(self, state, name, type_name):
         """Some of the values that a choice may take."""
         if type_name == "Bool":
@@ -210,20 +222,14 @@ class Model:
         values, scope = [compiled(argument, types) for argument in arguments], dict(called.inputs + called.outputs)
         post, pre = (compiled(self.clauses(c), scope) for c in (called.posts, [] if is_self else called.pres))
 
-        def demand(state, given, outputs):
-            if outputs:
-                for value in self.values(state, *outputs[0]):
-                    demand(state, {**given, outputs[0][0]: value}, outputs[1:])
-                return
-            put = {target: given[output] for target, (output, _) in zip(targets, called.outputs)}
-            claimed, wanted = of_number(post(given)), after({**state, **put})
-            greater, less = (claimed, wanted) if self.is_upper else (wanted, claimed)
-            if greater is not None:
-                self.sides.append(None if less is None else mixed((1, greater), (-1, less)))
-
         def value_of(state):
             inputs = {name: value(state) for (name, _), value in zip(called.inputs, values)}
-            demand(state, inputs, called.outputs)
+            for found in itertools.product(*(self.values(state, *typed) for typed in called.outputs)):
+                claimed = of_number(post({**inputs, **dict(zip(dict(called.outputs), found))}))
+                wanted = after({**state, **dict(zip(targets, found))})
+                greater, less = (claimed, wanted) if self.is_upper else (wanted, claimed)
+                if greater is not None:
+                    self.sides.append(None if less is None else mixed((1, greater), (-1, less)))
             return self.entry.at({**first_values(called.outputs), **inputs}) if is_self else of_number(pre(inputs))
         return value_of
 

@@ -55,7 +55,7 @@ class Proposer:
         if result != FOUND:
             return STATUSES[result], None
         text, self.judge.longest = self.source.edited()[0], max(self.options.seconds, FINAL)
-        found, reason = self.judge.verdicts(text, self.judge.longest)
+        found, reason = self.judge.verdicts(text, time.time() + self.judge.longest)
         wrong = {name: said for (name, _), said in found.items() if name in self.results and not is_accepted(said)}
         for name, verdict in wrong.items() if found else [("the file", reason)]:
             self.tell(f"{name}: {verdict}")
@@ -82,7 +82,8 @@ class Proposer:
         def verdict_on(found):
             self.show(f"{name}: proposal {self.judge.calls}, {time.time() - begin:.0f} s")
             text = self.source.edited(self.source.texts(procedure, found, ranked), name)[0]
-            return self.judge.verdict(text, name, begin + self.options.seconds, ranked)
+            verdicts, reason = self.judge.verdicts(text, begin + self.options.seconds)
+            return verdicts.get((name, f"loop {ranked}" if ranked else name), reason)
         search = Search(model, verdict_on, self.options.seconds, self.options.seed, self.say)
         found = search.run()
         if found is None:

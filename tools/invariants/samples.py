@@ -8,7 +8,7 @@ import goals
 from invariants.expressions import parts_of
 from invariants.model import first_values, is_number
 
-MOST_VALUES, MOST_ASKED, MOST_MET, MOST_LARGE, FAR = 150, 500, 1500, 1900, 1000
+MOST_VALUES, MOST_ASKED, MOST_MET, MOST_LARGE, FAR = 180, 500, 1500, 1900, 1000
 
 
 def size(state):
@@ -51,24 +51,17 @@ class Samples:
         things = list(things)
         return self.random.sample(things, min(most, len(things)))
 
-    def any_value(self, type_name):
-        """Any value of a type, small as a rule."""
-        chance = self.random
+    def other(self, type_name, state):
+        """A value of a type, near that of some variable of a state, near a constant, or small."""
+        chance, others = self.random, [abs(value) for value in state.values() if is_number(value)]
         if type_name == "Bool":
             return chance.random() < 0.5
-        near = max(0, chance.choice(self.constants or [5]) + chance.randint(-1, 1))
-        far = chance.choice([37, 100, FAR])
-        value = chance.choice([chance.randint(0, 4)] * 5 + [chance.randint(0, 12)] * 2 + [near, far])
-        if type_name == "UReal":
-            return chance.choice([Fraction(value, 2), Fraction(chance.randint(0, 16), chance.choice([2, 3, 4, 8]))])
-        return value * chance.choice([1, -1]) if type_name == "Int" else value
-
-    def other(self, type_name, state):
-        """A value near that of some variable, or any."""
-        chance, others = self.random, [abs(value) for value in state.values() if is_number(value)]
-        if type_name == "Bool" or not others or chance.random() < 0.5:
-            return self.any_value(type_name)
-        value = max(chance.choice(others) + chance.choice([-2, -1, 0, 0, 1, 2, chance.randint(-12, 12)]), 0)
+        if others and chance.random() < 0.5:
+            value = max(chance.choice(others) + chance.choice([-2, -1, 0, 0, 1, 2, chance.randint(-12, 12)]), 0)
+        else:
+            near = max(0, chance.choice(self.constants or [5]) + chance.randint(-1, 1))
+            value = chance.choice([chance.randint(0, 4)] * 5 + [chance.randint(0, 12)] * 2 + [near, 37, FAR])
+            value = Fraction(value * 4 + chance.randint(0, 7), 8) if type_name == "UReal" else value
         return value if type_name == "UReal" else int(value) * (chance.choice([1, -1]) if type_name == "Int" else 1)
 
     def inputs(self):
@@ -88,7 +81,7 @@ class Samples:
         for state in [chance.choice(begun) for _ in range(120)] if numeric and begun else ():
             names = [name for name in numeric if chance.random() < 0.5] or numeric
             found.append({**state, **{name: self.far(state[name]) for name in names}})
-        found += [{**found[0], **{name: self.any_value(t) for name, t in outputs}} for _ in range(6)]
+        found += [{**found[0], **{name: self.other(t, {}) for name, t in outputs}} for _ in range(6)]
         return [{**first_values(outputs), **state} for state in found]
 
     def far(self, value):
@@ -193,5 +186,5 @@ def expressions_of(block):
             yield from (pair[kind == "draw"] for pair in parts[kind == "draw"])
         elif kind == "call":
             yield from parts[2]
-        elif kind in ("set", "toss", "while", "reward"):
+        elif kind in ("set", "toss", "while", "check", "reward"):
             yield parts[0 if kind == "reward" else 1]

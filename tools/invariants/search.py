@@ -50,7 +50,7 @@ class Search:
                 break
             try:
                 best = self.found(shapes, best and total * (1 - NEAR))
-                total = self.model.candidate.get(self.goal, 0)
+                total = self.model.candidate.get(self.goal, 0) if self.aim else None
                 self.say(f"  {step}: found after {time.time() - self.begin:.1f} s")
                 if not self.aim:
                     break
@@ -100,9 +100,8 @@ class Search:
         for loop, shape in zip(self.loops, shapes):
             loop.template = Template(loop, self.model, shape, self.program.unknown)
         self.prune()
-        self.goal = self.program.unknown(GOAL_COST) if self.aim else None
-        if limit is not None:
-            self.program.add({self.goal: -1}, limit)
+        if self.aim:
+            self.aim_at(limit)
         self.solve()
         for _ in range(MOST_VERDICTS):
             invariants = {loop.number: loop.template.expression() for loop in self.loops}
@@ -114,12 +113,23 @@ class Search:
             self.solve()
         raise Failed(f"{MOST_VERDICTS} proposals refused")
 
+    def aim_at(self, limit):
+        """Makes the total of the values over the goals small, and at most a limit."""
+        self.goal, values = self.program.unknown(GOAL_COST), [self.aim.template(state) for state in self.goals]
+        if None in values:
+            raise Failed("infinite at an input")
+        sign, constant = (-1, 0) if self.model.is_upper else (1, -len(values))
+        self.add(mixed((1, {self.goal: 1, CONSTANT: constant}), *((sign, value) for value in values)))
+        if limit is not None:
+            self.add({self.goal: -1, CONSTANT: limit})
+
+    def add(self, terms):
+        self.program.add({name: factor for name, factor in terms.items() if name != CONSTANT}, terms.get(CONSTANT, 0))
+
     def solve(self):
-        """Adds the rows that the coefficients break most and solves again, until none is broken."""
-        program, model = self.program, self.model
-        while cuts := self.cuts():
-            for terms in cuts:
-                program.add({name: f for name, f in terms.items() if name != CONSTANT}, terms.get(CONSTANT, 0))
+        """Solves and adds the rows that the coefficients break most, until none is broken."""
+        program, model, cuts = self.program, self.model, True
+        while cuts:
             found = program.solve(self.is_late)
             if not found:
                 raise Failed("no coefficients serve" if found is False else "time")
@@ -127,6 +137,9 @@ class Search:
                 program.forget()
             model.candidate = {name: program.value(name) for name in range(program.count)}
             model.rough = {name: float(value) for name, value in model.candidate.items()}
+            cuts = self.cuts()
+            for terms in cuts:
+                self.add(terms)
         for loop in self.loops if self.slack else ():
             self.round(loop.template)
 
@@ -174,8 +187,8 @@ class Search:
 
     def cuts(self):
         """The rows that the present coefficients break most; what seems broken in floats is asked exactly."""
-        found, counts, values = [], {}, {**self.model.rough, CONSTANT: 1}
-        asked = [(loop, key) for loop in self.checked for key in loop.pool] + [(None, None)] * bool(self.goals)
+        found, values = [], {**self.model.rough, CONSTANT: 1}
+        asked = [(loop, key) for loop in self.checked for key in loop.pool]
         self.random.shuffle(asked)
         for at, (loop, key) in enumerate(asked):
             if len(found) >= MOST_CUTS and at >= 60 or at % 50 == 49 and self.is_late():
@@ -184,13 +197,8 @@ class Search:
                 value = sum(factor * values.get(name, 0) for name, factor in rough.items())
                 if value < 0 and self.is_broken(loop, terms):
                     norm = sum(abs(factor) for name, factor in rough.items() if name != CONSTANT)
-                    found.append((value / norm, len(found), loop, terms))
-        chosen = []
-        for _, _, loop, terms in sorted(found, key=lambda row: row[:2]):
-            counts[loop] = counts.get(loop, 0) + 1
-            if counts[loop] <= 4 and len(chosen) < MOST_CUTS:
-                chosen.append(terms)
-        return chosen
+                    found.append((value / norm, len(found), terms))
+        return [terms for _, _, terms in sorted(found)[:MOST_CUTS]]
 
     def is_broken(self, loop, terms):
         """Whether a row is broken that coefficients can mend."""
@@ -198,52 +206,35 @@ class Search:
             return False
         if any(factor for name, factor in terms.items() if name != CONSTANT):
             return True
-        if loop is None or loop in self.loops or not loop.number:
+        if loop in self.loops or not loop.number:
             raise Failed("no value serves at a state")
         return False
 
     def rows_of(self, loop, key):
-        """The rows of a state, or of the goals, where there is no loop, each with its factors in floats; those without
-        a choice are kept."""
+        """The rows of a state, each with its factors in floats; those without a choice are kept."""
         if (loop, key) not in self.cache or self.model.has_choice:
-            rows = self.rows_along(loop, loop.pool[key]) if loop else self.goal_rows()
+            rows = self.rows_along(loop, loop.pool[key])
             floats = [{name: float(factor) for name, factor in terms.items()} for terms in rows]
             self.cache[loop, key] = list(zip(rows, floats))
         return self.cache[loop, key]
 
     def rows_along(self, loop, state):
         """The rows of a state; where values are large, also those that ask the same of all larger ones: what a row
-        gains along the ray, with the same choices."""
-        model, rows = self.model, self.rows_at(loop, state)
+        gains along the ray."""
+        rows, more = self.rows_at(loop, state), []
         far = {name: value + FAR * round(value / FAR) for name, value in state.items()
                if is_number(value) and abs(value) >= FAR / 2}
-        if not far:
-            return rows
-        model.replay = model.trace[::-1]
         try:
-            more = self.rows_at(loop, {**state, **far})
-            columns = [[terms.keys() - {CONSTANT} for terms in found] for found in (rows, more)]
-            is_same = not model.replay and not model.trace and columns[0] == columns[1]
-            return rows + [mixed((1, b), (-1, a)) for a, b in zip(rows, more)] * is_same
+            more = self.rows_at(loop, {**state, **far}) if far and not self.model.has_choice else []
         except Failed:
-            return rows
-        finally:
-            model.replay = []
-
-    def goal_rows(self):
-        """The row that the total of the values that are made small is at most that of the goal."""
-        values = [self.aim.template(state) for state in self.goals]
-        if None in values:
-            raise Failed("infinite at an input")
-        if self.model.is_upper:
-            return [mixed((1, {self.goal: 1}), *((-1, value) for value in values))]
-        return [mixed((1, {self.goal: 1, CONSTANT: -len(values)}), *((1, value) for value in values))]
+            pass
+        columns = [[terms.keys() - {CONSTANT} for terms in found] for found in (rows, more)]
+        return rows + [mixed((1, b), (-1, a)) for a, b in zip(rows, more) if columns[0] == columns[1]]
 
     def rows_at(self, loop, state):
         """That an iteration from a state keeps to the template, that its value is no less than 0, and in a weak proc no
         more than 1."""
         model, rows, is_upper, is_open = self.model, [], self.model.is_upper, loop in self.loops
-        model.trace = []
         model.sides.clear()
         here = loop.template(state)
         if here is None and is_upper or is_open and not is_upper and not loop.template.holds(state):

@@ -75,12 +75,11 @@ class Template:
 
     def admit(self, state):
         """Drops the facts that a state breaks, and allows its leaf. Returns whether this changes the template."""
-        facts, is_new = [fact for fact in self.facts if fact[1](state)], False
+        before = len(self.facts), len(self.allowed or ())
+        self.facts = [fact for fact in self.facts if fact[1](state)]
         if self.allowed is not None:
-            is_new = self.key(state) not in self.allowed
             self.allowed.add(self.key(state))
-        is_changed, self.facts = is_new or len(facts) < len(self.facts), facts
-        return is_changed
+        return before != (len(self.facts), len(self.allowed or ()))
 
     def is_exit(self, state):
         """Whether the template is the post in a state, after the loop."""
