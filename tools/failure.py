@@ -7,10 +7,10 @@ from obligations import NOTHING
 
 CHANGES = {
     "bound": "{up} the pre",
-    "iteration": "{up} the invariant in this state, {down} it where the iteration leads, or take more copies by @k_induction",
+    "iteration": "{up} the invariant in this state",
     "exit": "{up} the invariant in this state",
     "call": "{up} the post of the called procedure",
-    "ranking": "raise the ranking in this state, or lower its step",
+    "ranking": "raise the ranking in this state",
     "weak": "lower it: a proc with @wlp bounds probabilities, so no formula of it may be above 1",
 }
 SIDES = {"bound": "the pre", "iteration": "the invariant", "exit": "the invariant", "ranking": "the ranking"}
@@ -58,15 +58,19 @@ class Failure:
 
     def changes(self):
         """Yields what would make the obligation true."""
-        kind, is_upper = self.obligation.kind, self.obligation.is_upper
+        kind, is_upper, own = self.obligation.kind, self.obligation.is_upper, f"the pre of {self.obligation.procedure.name}"
         up, down = ("raise", "lower") if is_upper else ("lower", "raise")
-        change = CHANGES[kind].format(up=up, down=down)
-        if kind in ("bound", "exit", "call"):
-            bounds = dict.fromkeys(end.label.partition(" (")[0] for end in self.sides.ends if end.label != "the post")
-            change += f", or {down} {' or '.join(bounds)}" if bounds else ", or change the body" * (kind == "bound")
-        yield f"change: {change}"
-        if kind in ("iteration", "exit") and self.obligation.known:
-            yield f"or: if no run reaches this state, let the invariant be {NOTHING[is_upper].text()} in it"
+        bounds = dict.fromkeys(end.label.partition(" (")[0] for end in self.sides.ends)
+        bounds = [bound for bound in bounds if bound not in ("the post", own)]
+        changes = [CHANGES[kind].format(up=up)]
+        changes += [f"{down} {'it where the iteration leads' if bound == SIDES.get(kind) else bound}" for bound in bounds]
+        changes += ["change the body"] * (kind == "bound" and not bounds)
+        changes += ["take more copies by @k_induction"] * (kind == "iteration" and SIDES[kind] in bounds)
+        changes += ["lower its step"] * (kind == "ranking")
+        *others, last = changes
+        yield f"change: {', '.join([*others, f'or {last}']) if others else last}"
+        if kind in ("iteration", "exit", "ranking") and self.obligation.known:
+            yield f"or: if no run reaches this state, let {SIDES[kind]} be {NOTHING[is_upper].text()} in it"
 
     def state(self):
         """Returns the values of the variables, then those of the inputs, then earlier values on which the state depends."""

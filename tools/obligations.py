@@ -210,7 +210,6 @@ class Decomposition:
         invariant, copies = invariant_of(loop), copies_of(loop)
         rule = next(node for node in loop.rules if node[0] in ("invariant", "k_induction"))
         at = context.chosen([name for name in scope if name in conditions.targets_of(block)])
-        following = after_copy(loop, copies, rest, self.is_upper)
         reads = variables_of([guard, invariant])
 
         def bound(names):
@@ -219,11 +218,13 @@ class Decomposition:
         turns = "an iteration" if copies == 1 else f"up to {copies} iterations"
         claim = f"the invariant is at {self.word} what {turns} {'gives' if copies == 1 else 'give'}"
         iteration = Obligation(self.procedure, "iteration", rule.start, f"loop {loop.number}, iteration", claim)
+        following = after_copy(loop, copies, rest, self.is_upper, "the invariant")
         self.make(iteration, Start(at, scope, guard), bound, reads, [*block, *following])
         claim = f"where the guard does not hold, the invariant is at {self.word} what follows the loop gives"
         leaving = Obligation(self.procedure, "exit", guard.start, f"loop {loop.number}, exit", claim)
         self.make(leaving, Start(at, scope, guard, False), bound, reads, rest)
         limited = at.limited(at.of(invariant))
+        following = after_copy(loop, copies, rest, self.is_upper, loop.label)
         self.walk(block, following, Start(limited.claimed(at.of(guard)), scope))
         return limited.claimed(not_of(at.of(guard)))
 

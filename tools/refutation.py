@@ -10,18 +10,18 @@ import evaluate
 import summaries
 
 STEPS, LARGER, SAME_CHOICES, SECONDS = 200, 2, 12, 300
-LONG, SUM = 24, "reward plus post"
+LONG, SUM = 24, "the expected reward plus post"
 
 
-def lines_on(program, path, procedure, whole, decisions):
-    """Returns lines on a coproc whose bound is not shown: whether it is false, and by which script. `whole` is the verdict of `verify`, and
-    `decisions` are choices by which the bound is broken in its state, if they are known."""
+def lines_on(program, path, procedure, whole, has_failure, decisions):
+    """Returns lines on a coproc whose bound is not shown: whether it is false, and by which script. `whole` is the verdict of `verify`,
+    `has_failure` says whether an obligation fails, and `decisions` are choices by which the bound is broken in its state, if they are known."""
     answer, script = Runs(program, path, procedure).refuted(whole, decisions)
     output = answer.output.strip()
     found = re.search(r": violated at step (\d+): (\S+) above (\S+)$", output)
     if found:
         given, pre = shortened(found[2]), shortened(found[3])
-        head = f"the bound is false: after {steps(found[1])} {SUM} is {given}, above the pre {pre}, by the script"
+        head = f"the bound is false: after {steps(found[1])} {SUM} is {given}, above the pre {pre}, with the script"
         return [head, *("  " + line for line in script.splitlines())]
     if output.endswith(" is not a program"):
         return [f"whether runs break the bound is not known: {output}"]
@@ -29,7 +29,8 @@ def lines_on(program, path, procedure, whole, decisions):
     if not kinds.intersection(summaries.SUMMARIES):
         return ["the bound is false: a scheduler who chooses as above breaks it"] if whole.fails else []
     weak = "the invariant" if "while" in kinds else "what the called procedures claim"
-    return [f"the bound may be true, and {weak} too weak: {seen(output, script)}"]
+    head = f"the bound may be true, and {weak} too weak" if has_failure else "the bound may be true"
+    return [f"{head}: {seen(output, script)}"]
 
 
 def steps(number):

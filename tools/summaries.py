@@ -27,12 +27,13 @@ def copies_of(loop):
     return int(loop[1]["k_induction"][0][1]) if "k_induction" in loop[1] else 1
 
 
-def after_copy(loop, count, rest, is_upper):
-    """Returns the items that follow a copy of the body of a loop, where `count` copies are left with this one, and `rest` after the loop."""
+def after_copy(loop, count, rest, is_upper, label):
+    """Returns the items that follow a copy of the body of a loop, where `count` copies are left with this one, and `rest` after the loop.
+    The code ends with the invariant, which has this label."""
     invariant = invariant_of(loop)
     if count == 1:
-        return [("end", invariant, "the invariant")]
-    more = [item for item in after_copy(loop, count - 1, [], is_upper) if item[0] != "whole"]
+        return [("end", invariant, label)]
+    more = [item for item in after_copy(loop, count - 1, [], is_upper, label) if item[0] != "whole"]
     again = heyvl.Node(("if", [(loop[2], heyvl.Block(0, 0, [*loop[3], *more]))], heyvl.Block(0, 0)))
     return [("whole",), heyvl.Node(("check", "assert" if is_upper else "coassert", invariant)), again, *rest]
 
