@@ -58,11 +58,13 @@ class Loop:
     is given. States in `met` were met by runs; those in `pool` give rows; `finite` has the values of the variables that
     have few."""
 
-    def __init__(self, model, number, types, scope, changed, guard):
+    def __init__(self, model, number, types, scope, changed, guard, rule):
         self.model, self.number, self.types, self.scope, self.changed = model, number, types, scope, changed
-        self.guard, self.holds = guard, compiled(guard, types)
-        self.template, self.turn, self.rule, self.is_plain, self.is_last = None, None, None, True, False
-        self.block, self.start, self.met, self.pool, self.finite = [], 0, {}, {}, {}
+        self.guard, self.holds, self.rule = guard, compiled(guard, types), rule
+        value = None if rule is None else compiled(rule, types)
+        self.template, self.turn = value and (lambda state: of_number(value(state))), None
+        self.is_plain, self.is_last, self.block, self.start = True, False, [], 0
+        self.met, self.pool, self.finite = {}, {}, {}
 
     def key(self, state):
         return tuple(state[name] for name in self.scope)
@@ -97,14 +99,9 @@ class Model:
         self.numbers = {id(s): n for n, s in enumerate(statements, 1)}
         self.used = variables_of([self.post_expression, statements if len(statements) > 1 else []])
         self.loops, self.end = {}, lambda state: of_number(self.post(state))
-        start = self.through(procedure.body, types, self.end)
-        changed = [name for name, _ in procedure.inputs]
-        self.entry = Loop(self, 0, types, list(types), changed, ("truth", True))
-        self.entry.turn, self.entry.rule = start, None if self.has_hole else self.pre_expression
-        for loop in [self.entry, *self.loops.values()]:
-            if loop.rule is not None:
-                value = compiled(loop.rule, loop.types)
-                loop.template = lambda state, value=value: of_number(value(state))
+        start, rule = self.through(procedure.body, types, self.end), None if self.has_hole else self.pre_expression
+        self.entry = Loop(self, 0, types, list(types), [name for name, _ in procedure.inputs], ("truth", True), rule)
+        self.entry.turn = start
 
     def is_begun(self, state):
         """Whether the pre claims something of an input."""
@@ -157,12 +154,12 @@ class Model:
         return lambda state: mixed(*((weight, after({**state, name: value(state)})) for weight, value in parts))
 
     def through_toss(self, types, after, targets, expression):
-        (name,), chance = targets, compiled(expression, types)
+        (name,), chance = targets, compiled(("\\cap", expression, number(1)), types)
 
         def tossed(state):
-            heads = min(Fraction(chance(state)), 1)
-            sides = [(weight, side) for weight, side in ((heads, True), (1 - heads, False)) if weight]
-            return mixed(*((weight, after({**state, name: side})) for weight, side in sides))
+            heads = Fraction(chance(state))
+            sides = ((heads, True), (1 - heads, False))
+            return mixed(*((weight, after({**state, name: side})) for weight, side in sides if weight))
         return tossed
 
     def through_reward(self, types, after, expression):
@@ -185,7 +182,7 @@ class Model:
         return lambda s: self.chosen([after({**s, name: v}) for v in self.values(s, name, types[name])], upper)
 
     def through_check(self, types, after, word, expression):
-        """An `assert` or `assume`, or `co` and one of these: an assert is a choice between its claim and what follows."""
+        """An `assert` or `assume`, or `co` and one: an assert is a choice between its claim and what follows."""
         value, is_upper = compiled(expression, types), word.startswith("co")
 
         def checked(state):
@@ -241,9 +238,9 @@ class Model:
         rule = None if is_ranked else rules.get("k_induction", rules.get("invariant", [None]))[-1]
         used = set(types) if rule is not None else targets | self.used | variables_of([guard, body])
         scope, changed = [name for name in types if name in used], [name for name in types if name in targets]
-        loop = self.loops[number] = Loop(self, number, types, scope, changed, guard)
+        loop = self.loops[number] = Loop(self, number, types, scope, changed, guard, rule)
         loop.is_last, loop.block = is_ranked or after is self.end, body
-        loop.rule, loop.is_plain, loop.start = rule, "k_induction" not in rules, getattr(statement, "start", 0)
+        loop.is_plain, loop.start = "k_induction" not in rules, statement.start
         inner = self.through(body, types, loop.at)
 
         def turn(state):
