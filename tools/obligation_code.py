@@ -14,12 +14,13 @@ class Mark(typing.NamedTuple):
 
 class CodeWriter:
     """Lines of code, as tuples of pieces. A dictionary `names` gives each visible variable its expression, which is a name but for some inputs
-    of calls; `used` has the names that are taken, and `shown` gives new names those of the source."""
+    of calls; `used` has the names that are taken, `called` those of procedures that are called, and `shown` gives new names those of
+    the source."""
 
     def __init__(self, source, procedure, used=(), is_ranking=False):
         self.source, self.is_ranking = source, is_ranking
         self.is_upper = procedure.is_upper or is_ranking
-        self.used, self.lines, self.shown = set(used), [], {}
+        self.used, self.lines, self.called, self.shown = set(used), [], set(), {}
 
     def fresh(self, hint):
         """Returns a new name, with a number after it where this one is taken."""
@@ -91,6 +92,7 @@ class CodeWriter:
         if kind == "toss":
             return pieces_of("flip(", self.text_of(parts[1], names), ")")
         if kind == "call":
+            self.called.add(parts[1])
             return pieces_of(parts[1], "(", self.texts_of(parts[2], names), ")")
         if item.word == "unif":
             return pieces_of("unif(", self.texts_of(item.parts, names), ")")

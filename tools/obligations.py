@@ -10,7 +10,6 @@ draws, rewards, a `coassert` or a `\\cup` of a proc, obligations suffice and nee
 
 With K copies of an iteration, K above 1, the loops and calls after the first copy stay as they are."""
 import conditions
-import heyvl
 from contexts import Context, relevant
 from expressions import (
     ATOM, LEVELS, Expression, Source, Symbol, all_of, choice, joined, not_of, of_symbol, pieces_of, plain, resolved, same, symbols_of,
@@ -27,7 +26,7 @@ class Obligation:
 
     `kind` is `bound`, `iteration`, `exit`, `call`, `ranking` or `weak`, `goal` the goal of `verify` to which it belongs, `place` its place in
     the source, `label` its name there and `claim` what it claims; `name` is that of its procedure of HeyVL. This has `inputs`, `outputs`,
-    `pres`, `posts` and `lines`. `shown` gives its names those of the source. Of its inputs, those in `known` are variables at the place, and
+    `pres`, `posts` and `lines`, and calls the procedures `called`. `shown` gives its names those of the source. Of its inputs, those in `known` are variables at the place, and
     the others are values on which the context depends. The variables in `hidden` have a value that does not matter."""
 
     def __init__(self, procedure, kind, place, label, claim, goal="bound"):
@@ -35,7 +34,7 @@ class Obligation:
         self.is_exact, self.is_upper = True, procedure.is_upper or kind in ("ranking", "weak")
         self.name, self.hint = "", label.replace(",", "").replace("call of", "call").replace(" ", "_")
         self.inputs, self.outputs, self.shown, self.known, self.hidden = [], [], {}, set(), set()
-        self.pres, self.posts, self.lines = [], [], []
+        self.pres, self.posts, self.lines, self.called = [], [], [], set()
 
     def add_input(self, name, type_name, shown, is_known=True):
         self.inputs.append((name, type_name))
@@ -69,11 +68,6 @@ class Obligation:
             text.append(piece[0])
             size += len(piece[0])
         return "".join(text), origins, marks
-
-    def kept_calls(self):
-        """Returns the calls that stay in the text."""
-        (procedure,) = heyvl.read(self.written(False)[0])
-        return [s for s in conditions.statements_of(procedure.body) if s[0] == "call"]
 
 
 def typed(names):
@@ -148,6 +142,7 @@ class Decomposition:
         obligation.posts = self.posts(code, names) if reached else []
         code.write(items, names, 1, not obligation.posts)
         obligation.lines += code.lines
+        obligation.called |= code.called
         obligation.shown.update(code.shown)
         self.found.append(obligation)
 
