@@ -26,7 +26,7 @@ class Maker:
         if kind == "variable":
             return state[parts[0]]
         if kind == "bind":
-            return self.value(parts[2], {**state, parts[1]: self.constant(parts[0])})
+            return self.bound(self.value(parts[2], {**state, parts[1]: self.constant(parts[0])}), 1)
         return self.applied(kind, *[self.value(part, state) for part in parts])
 
     def clauses(self, clauses, state):
@@ -60,8 +60,7 @@ class Maker:
     def draw_worth(self, state, rest, targets, parts):
         found = []
         for weight, expression in parts:
-            part = rest(self.put(state, targets, [self.value(expression, state)]))
-            found.append(self.product(self.number(weight, "UReal"), part))
+            found.append(self.scaled(weight, rest(self.put(state, targets, [self.value(expression, state)]))))
         return functools.reduce(self.sum, found)
 
     def toss_worth(self, state, rest, targets, expression):
@@ -74,7 +73,7 @@ class Maker:
         return self.sum(*sides)
 
     def any_worth(self, state, rest, names):
-        return rest({**state, **self.state([(name, state[name].type) for name in names])})
+        return self.bound(rest({**state, **self.state([(name, state[name].type) for name in names])}), len(names))
 
     def reward_worth(self, state, rest, expression):
         return rest(state) if self.is_ranking else self.sum(rest(state), self.value(expression, state))
@@ -96,18 +95,26 @@ class Maker:
         first, second = self.inner(left, state, rest), self.inner(right, state, rest)
         return (self.greatest if self.is_ranking or mark == "\\cup" else self.least)(first, second)
 
-    def known(self, bound, claimed, wanted):
-        """What a call or a loop is worth, which is its bound where for all values that it gives its claim shows what is wanted."""
+    def scaled(self, weight, part):
+        """The worth of a part, times its weight."""
+        return self.product(self.number(weight, "UReal"), part)
+
+    def bound(self, worth, count):
+        """A worth in which so many choices are made."""
+        return worth
+
+    def known(self, bound, count, claimed, wanted):
+        """What a call or a loop is worth, which is its bound where for all the values that it gives, so many, its claim shows what is wanted."""
         if self.is_upper:
-            return self.greatest(bound, self.covalidated(self.coimplied(claimed, wanted)))
-        return self.least(bound, self.validated(self.implied(claimed, wanted)))
+            return self.greatest(bound, self.bound(self.covalidated(self.coimplied(claimed, wanted)), count))
+        return self.least(bound, self.bound(self.validated(self.implied(claimed, wanted)), count))
 
     def call_worth(self, state, rest, targets, name, arguments):
         called = next(procedure for procedure in self.file if procedure.name == name)
         inputs = {x: self.widened(self.value(argument, state), t) for (x, t), argument in zip(called.inputs, arguments)}
         pre, outputs = self.clauses(called.pres, inputs), self.state(called.outputs)
         post = self.clauses(called.posts, {**inputs, **outputs})
-        return self.known(pre, post, rest(self.put(state, targets, outputs.values())))
+        return self.known(pre, len(outputs), post, rest(self.put(state, targets, outputs.values())))
 
     def while_worth(self, state, rest, rules, guard, block):
         """The worth of a loop by its copies."""
@@ -124,9 +131,10 @@ class Maker:
             return self.choice(test, turn, rest(at))
 
         bound, changed = self.value(invariant, state), targets_of(block)
-        at = {**state, **self.state([(x, state[x].type) for x in state if x in changed])}
+        new = self.state([(x, state[x].type) for x in state if x in changed])
+        at = {**state, **new}
         claimed = self.value(invariant, at)
-        return self.known(bound, claimed, met(int(copies[1]), at))
+        return self.known(bound, len(new), claimed, met(int(copies[1]), at))
 
     def forgotten(self, rest, after):
         """The worth of what follows a last copy, which is assumed away."""

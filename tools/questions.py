@@ -126,6 +126,15 @@ class Maker(conditions.Maker):
     def product(self, a, b):
         return self.node("*", join(a.type, b.type), a, b)
 
+    def scaled(self, weight, part):
+        """A weight is no node of its own."""
+        found = super().scaled(weight, part)
+        return found._replace(size=found.size - 1)
+
+    def bound(self, worth, count):
+        """Each choice counts as a node around what it is made in."""
+        return worth._replace(size=worth.size + count, depth=worth.depth + count)
+
     def choice(self, test, a, b):
         return self.node("ite", join(a.type, b.type), test, a, b)
 
@@ -146,7 +155,7 @@ class Maker(conditions.Maker):
         if kind == "negative":
             return self.difference(self.zero._replace(type="Int"), a)
         if kind == "/":
-            return self.product(a, self.number(1 / b.parts[0], "UReal"))
+            return self.scaled(1 / b.parts[0], a)
         if kind in ("!", "~"):
             return self.implied(a, self.zero) if kind == "!" else self.coimplied(a, self.infinity())
         return {"\\cap": self.least, "\\cup": self.greatest, "==>": self.implied, "<==": self.coimplied, "+": self.sum, "-": self.difference,
