@@ -166,14 +166,14 @@ def quantified(expression):
 
 
 def variables_of(file, procedure, has_calls):
-    """The types of the variables of a procedure by their numbers: its inputs and outputs, those of its quantifiers, those that it declares, and
+    """The types of the variables of a procedure by their numbers: its inputs and outputs, those that it declares, those of its quantifiers, and
     those that its calls are encoded with; and the numbers of inputs and outputs by their names, and of declared ones by their places."""
     heads, statements = procedure.inputs + procedure.outputs, list(statements_of(procedure.body or []))
-    types = [type_name for _, type_name in heads] + [type_name for post in procedure.posts for type_name in quantified(post)]
     declared = [statement for statement in statements if statement[0] == "declare"]
     numbers = {name: number for number, (name, _) in enumerate(heads)}
-    numbers.update((statement.start, number) for number, statement in enumerate(declared, len(types)))
-    types += [statement[2] for statement in declared]
+    numbers.update((statement.start, number) for number, statement in enumerate(declared, len(heads)))
+    types = [type_name for _, type_name in heads] + [statement[2] for statement in declared]
+    types += [type_name for post in procedure.posts for type_name in quantified(post)]
     for statement in statements if has_calls else []:
         for called in [p for p in file if statement[0] == "call" and p.name == statement[2]][:1]:
             types += [type_name for _, type_name in called.inputs + called.outputs]
