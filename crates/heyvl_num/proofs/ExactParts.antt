@@ -1,4 +1,4 @@
--- What the parts that the code computes say of the exact results.
+-- The exact results of `Exact`, from the integers that the code computes.
 use Rattle.std.proofs.Common.{◌≡◌, ℕ, ◌<◌, ◌*◌, ◌^◌, refl, sym, ap, ap₂, ◌∙◌, subst, arith, to_z, of_z, FitsSigned, ℤ, pos, negsuc, ◌<ℤ◌, unsigned_abs, ◌*ℤ◌, ◌+ℤ◌, ◌-ℤ◌, Bool, true, false, ◌&&◌, not}
 use Rattle.std.specs.Prelude.{Some, None, IsTrue}
 use Rattle.std.specs.Int.{w128}
@@ -17,7 +17,7 @@ untrue : (b : Bool) → ¬ (IsTrue b) → b ≡ false
 untrue true h = absurd (h refl)
 untrue false h = refl
 
--- what the code knows of a number l that it computed as z
+-- The code has computed `l` as the small integer `z`.
 abbrev pub Made : ℤ → ℤ → Type 0
 Made l z = (IsTrue (is_small z)) × (l ≡ z)
 
@@ -179,7 +179,7 @@ nonzero (pos zero) h e = absurd (cc)
 nonzero (pos (suc n)) h e = absurd (omega (arith, ints))
 nonzero (negsuc n) h e = absurd (omega (arith, ints))
 
--- what the code knows of the parts of a fraction
+-- What holds of the arguments of a quotient that fits.
 pub record Given (a b : ℤ) : Type 0 where
   pub num : unsigned_abs a < 2 ^ 127
   pub den : unsigned_abs b < 2 ^ 127

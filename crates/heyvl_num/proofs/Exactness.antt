@@ -1,5 +1,6 @@
--- What follows from a result that the code gave: it is the exact one, and everything fitted.
--- To import: `use Rattle.heyvl_num.proofs.Exactness.{exact_sum_some}` and the like, or `using(heyvl_num::proofs::Exactness::exact)`.
+-- If the code returns a result, it is the exact one, and all integers fit. To import: `use
+-- Rattle.heyvl_num.proofs.Exactness.{exact_sum_some}`, or
+-- `using(heyvl_num::proofs::Exactness::exact)`.
 use Rattle.std.proofs.Common.{◌≡◌, refl, ap, ◌∙◌, sym, subst, Bool, true, false}
 use Rattle.std.specs.Prelude.{Option, Some, None, option_map, ℤ, if◌then◌else◌}
 use Rattle.std.specs.declared.cmp.Ordering.{Ordering}
@@ -42,7 +43,7 @@ pub exact_order_some : (x y : Rational) (o : Ordering) → Some o ≡ exact_orde
 unfolding exact_order
 exact_order_some x y o e = (given (order_fits x y) (compareʳ x y) o e).1
 
--- ---- None, and what didn't fit
+-- ---- None, and what does not fit
 
 pub exact_sum_none : (x y : Rational) → None ≡ exact_sum x y → sum_fits x y ≡ false
 unfolding exact_sum
@@ -86,7 +87,7 @@ exact_orderᵛ_some (finite x) infinite o e = cc
 exact_orderᵛ_some infinite (finite y) o e = cc
 exact_orderᵛ_some infinite infinite o e = cc
 
--- ---- The order that a comparison tells
+-- ---- The result of a comparison
 
 pub order_less : (x y : Rational) (o : Ordering) → Some o ≡ exact_order x y → o ≡ Less → leqʳ y x ≡ false
 order_less x y o e f = let m : x <ʳ y = subst (λ (o : Ordering). MatchOrdering o (x <ʳ y) (x ≡ y) (y <ʳ x)) (sym (exact_order_some x y o e) ∙ f) (compareʳ-is x y) in m.holds

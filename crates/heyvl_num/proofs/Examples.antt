@@ -1,4 +1,4 @@
--- The definitions computed at values found by hand.
+-- The definitions, computed for values that were worked out by hand.
 use Rattle.std.proofs.Common.{◌≡◌, refl, true, false}
 use Rattle.std.specs.Prelude.{pos, negsuc}
 use Rattle.std.specs.declared.cmp.Ordering.TheVariants.{Less, Equal}
@@ -37,7 +37,7 @@ order_of_fractions : (leqʳ (ratio (negsuc 0) 2) (ratio (pos 1) 3) ≡ true) × 
 unfolding ratio gcd gcd_steps leqʳ compareʳ
 order_of_fractions = (refl, refl, refl, refl)
 
--- 7/2 lies between 3 and 4, and -7/2 between -4 and -3
+-- 7/2 is between 3 and 4, and -7/2 between -4 and -3
 roundings : (floorʳ (ratio (pos 7) 2) ≡ pos 3) × (ceilʳ (ratio (pos 7) 2) ≡ pos 4) × (floorʳ (ratio (negsuc 6) 2) ≡ negsuc 3) × (ceilʳ (ratio (negsuc 6) 2) ≡ negsuc 2)
 unfolding ratio gcd gcd_steps floorʳ ceilʳ
 roundings = (refl, refl, refl, refl)

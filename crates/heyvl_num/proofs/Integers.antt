@@ -1,6 +1,7 @@
--- Laws of the whole numbers that std lacks.
--- To import: `use Rattle.heyvl_num.proofs.Integers.{ring, ring_neg}`, or `using(heyvl_num::proofs::Integers::ring)`.
--- `simp ring` closes an identity of sums and products; `simp ring_neg (omega (arith, ints))` one with differences too.
+-- Laws of the integers that the standard library lacks. To import: `use
+-- Rattle.heyvl_num.proofs.Integers.{ring, ring_neg}`, or
+-- `using(heyvl_num::proofs::Integers::ring)`. `simp ring` proves an identity of sums and products;
+-- `simp ring_neg (omega (arith, ints))` one with differences too.
 use Rattle.std.proofs.Common.{◌≡◌, ℕ, ◌+◌, ◌*◌, ◌<◌, ap, refl, arith, Bool, true, false}
 use Rattle.std.specs.Prelude.{◌≤ℤ◌}
 use Rattle.std.specs.Int.Signed.{le_z}
@@ -52,7 +53,6 @@ zero_times a = omega (arith, ints)
 pub zero-+ℤ : (a : ℤ) → pos 0 +ℤ a ≡ a
 zero-+ℤ a = omega (arith, ints)
 
--- a test of the order, and the order
 is_true : (b : Bool) → T b → b ≡ true
 is_true true h = refl
 is_true false h = absurd h
@@ -73,6 +73,5 @@ same_truth true false f g = absurd (f tt)
 same_truth false true f g = absurd (g tt)
 same_truth false false f g = refl
 
--- two tests of the order agree where the orders do
 pub same_test : (a b c d : ℤ) → (a ≤ℤ b → c ≤ℤ d) → (c ≤ℤ d → a ≤ℤ b) → le_z a b ≡ le_z c d
 same_test a b c d f g = same_truth _ _ (λ h. (f (record { le = h })).le) (λ h. (g (record { le = h })).le)

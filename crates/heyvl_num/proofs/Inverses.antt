@@ -1,5 +1,5 @@
--- The inverse of a positive fraction.
--- To import: `use Rattle.heyvl_num.proofs.Inverses.{inverse, Inverse}`.
+-- The inverse of a positive fraction. To import: `use Rattle.heyvl_num.proofs.Inverses.{inverse,
+-- Inverse}`.
 use Rattle.std.proofs.Common.{◌≡◌, ℕ, ◌*◌, ◌<◌, refl, sym, ap, ◌∙◌, arith, false}
 use Rattle.std.specs.Prelude.{◌≤ℤ◌}
 use Rattle.std.proofs.Math.IntN.{ℤ, pos, negsuc, ◌*ℤ◌}
@@ -10,7 +10,7 @@ use Rattle.heyvl_num.specs.Rational.{Rational, ratio, zeroʳ, oneʳ, ◌*ʳ◌, 
 use Rattle.heyvl_num.specs.Value.{is_zeroʳ, is_zero_num}
 use Rattle.heyvl_num.proofs.Rationals.{ratio_parts, ratio-*, ratio_same, ratio_nonnegative, nonnegative_num}
 
--- what gives 1 with a fraction
+-- A fraction whose product with `w` is 1.
 pub record Inverse (w : Rational) : Type 0 where
   pub factor : Rational
   pub nonnegative : zeroʳ ≤ʳ factor
@@ -23,7 +23,6 @@ of_ratio : (n d : ℕ) → 0 < n → 0 < d → ratio (pos d) n *ʳ ratio (pos n)
 unfolding oneʳ
 of_ratio n d p q = ratio-* (pos d) n (pos n) d p q ∙ ratio_same _ _ _ _ (mul-pos p q) (omega arith) (turned n d)
 
--- a fraction above 0 has an inverse
 pub inverse : (w : Rational) → zeroʳ ≤ʳ w → is_zeroʳ w ≡ false → Inverse w
 unfolding is_zeroʳ
 inverse w p e = go w.num refl (nonnegative_num w p) e

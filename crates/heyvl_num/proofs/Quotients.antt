@@ -1,4 +1,4 @@
--- The code's quotients by the greatest common divisor.
+-- The code's divisions by the greatest common divisor.
 use Rattle.std.proofs.Common.{◌≡◌, ℕ, ◌<◌, ◌≤◌, ◌^◌, ap, ap₂, ◌∙◌, arith, to_z, of_z, FitsSigned, ℤ, pos, negsuc, ◌<ℤ◌, unsigned_abs}
 use Rattle.std.specs.Int.{w128}
 use Rattle.std.specs.Int.RustNames.{int_div}
@@ -10,7 +10,6 @@ use Rattle.heyvl_num.specs.Rational.{abs_div, ratio}
 use Rattle.heyvl_num.specs.RationalParts.{abs-pos}
 use Rattle.heyvl_num.proofs.Rationals.{ratio_same, div_cross}
 
--- what a numerator and a denominator are divided by, and what that gives
 divisor_fits : (a b : ℤ) → pos 0 <ℤ b → (0 < gcd (unsigned_abs a) (unsigned_abs b)) × (gcd (unsigned_abs a) (unsigned_abs b) ≤ unsigned_abs b)
 divisor_fits a b p = (gcd-pos _ _ (abs-pos b p), le_of_dvd (abs-pos b p) (gcd-is (unsigned_abs a) (unsigned_abs b)).1)
 
@@ -27,7 +26,6 @@ div_lowest a b p = rw (abs_div a _, abs_div b _) (gcd-quotients (unsigned_abs a)
 div_ratio : (a b : ℤ) → pos 0 <ℤ b → ratio (int_div a (pos (gcd (unsigned_abs a) (unsigned_abs b)))) (unsigned_abs (int_div b (pos (gcd (unsigned_abs a) (unsigned_abs b))))) ≡ ratio a (unsigned_abs b)
 div_ratio a b p = rw (abs_div b (gcd (unsigned_abs a) (unsigned_abs b))) (ratio_same _ _ _ _ (quotient_den-pos (unsigned_abs a) (unsigned_abs b) (abs-pos b p)) (abs-pos b p) (div_cross a (unsigned_abs b)))
 
--- the divisor fits, and is above 0
 pub divisor : (a b : ℤ) (m n r : ℕ) → pos 0 <ℤ b → FitsSigned w128 a → FitsSigned w128 b → m ≡ unsigned_abs (to_z w128 (of_z w128 a)) → n ≡ unsigned_abs (to_z w128 (of_z w128 b)) → r ≡ gcd m n → (to_z w128 r ≡ pos (gcd (unsigned_abs a) (unsigned_abs b))) × (FitsSigned w128 (pos r)) × (pos 0 <ℤ to_z w128 r)
 divisor a b m n r p fa f e1 e2 e3 =
     let t1 = to_z-of_z w128 a fa in
@@ -41,7 +39,7 @@ divisor a b m n r p fa f e1 e2 e3 =
 seen_small : (z : ℤ) → unsigned_abs z < 2 ^ 127 → to_z w128 (of_z w128 z) ≡ z
 seen_small z h = to_z-of_z w128 z (fits_signed_from_abs w128 z h)
 
--- the parts t and u that the code makes of a and b
+-- The code has divided `a` and `b` by their greatest common divisor, with the results `t` and `u`.
 pub record Parts (a b t u : ℤ) : Type 0 where
   pub top : to_z w128 (of_z w128 t) ≡ t
   pub bottom : to_z w128 (of_z w128 u) ≡ u

@@ -1,6 +1,6 @@
--- Laws of the exact fractions.
--- To import: `use Rattle.heyvl_num.proofs.Rationals.{ring, order}`, or `using(heyvl_num::proofs::Rationals::order)`.
--- Both rule sets serve `simp`, `search`, `grind` and `using(..)`.
+-- Laws of exact fractions. To import: `use Rattle.heyvl_num.proofs.Rationals.{ring, order}`, or
+-- `using(heyvl_num::proofs::Rationals::order)`. Both rule sets serve `simp`, `search`, `grind` and
+-- `using(..)`.
 use Rattle.std.proofs.Common.{◌≡◌, ℕ, ◌*◌, ◌/◌, ◌<◌, ◌⊎◌, inl, inr, refl, sym, ap, ap₂, ◌∙◌, subst, arith}
 use Rattle.std.specs.Prelude.{◌≤ℤ◌}
 use Rattle.std.specs.Int.Signed.{le_z}
@@ -20,7 +20,6 @@ use Rattle.heyvl_num.proofs.Integers.{neg-*ℤ, ≤ℤ-scale, ≤ℤ-cancel, one
 
 -- ---- Fractions and their cross products
 
--- fractions with equal parts are equal
 pub same_parts : (x y : Rational) → x.num ≡ y.num → x.den ≡ y.den → x ≡ y
 same_parts x y p q = λ i. record { num = p i; den = q i; positive = is_prop→PathP (λ i. 0 < q i) (λ i. le_prop) x.positive y.positive i; lowest = is_prop→PathP (λ i. gcd (unsigned_abs (p i)) (q i) ≡ 1) (λ i. ℕ_set _ _) x.lowest y.lowest i }
 
@@ -41,7 +40,6 @@ pub div_cross : (a : ℤ) (b : ℕ) → int_div a (pos (gcd (unsigned_abs a) b))
 div_cross (pos a) b = ap pos (cross_nat a b)
 div_cross (negsuc a) b = neg-*ℤ (pos (suc a / gcd (suc a) b)) (pos b) ∙ ap (λ n. neg_ℤ (pos n)) (cross_nat (suc a) b)
 
--- the parts of a fraction of two whole numbers have the same cross products as these
 pub ratio_cross : (a : ℤ) (b : ℕ) → 0 < b → (ratio a b).num *ℤ pos b ≡ a *ℤ pos (ratio a b).den
 ratio_cross a b h = rw (ratio_num a b h, ratio_den a b h) (div_cross a b)
 
@@ -58,7 +56,6 @@ same_div (pos a) b (negsuc c) d p q e = absurd (omega (arith, ints))
 same_div (negsuc a) b (pos c) d p q e = absurd (omega (arith, ints))
 same_div (negsuc a) b (negsuc c) d p q e = let s = same_quotients (suc a) b (suc c) d p q (omega (arith, ints)) in (ap (λ n. neg_ℤ (pos n)) s.0, s.1)
 
--- equal cross products make equal fractions
 pub ratio_same : (a : ℤ) (b : ℕ) (c : ℤ) (d : ℕ) → 0 < b → 0 < d → a *ℤ pos d ≡ c *ℤ pos b → ratio a b ≡ ratio c d
 ratio_same a b c d p q e = let s = same_div a b c d p q e in same_parts _ _ (ratio_num a b p ∙ s.0 ∙ sym (ratio_num c d q)) (ratio_den a b p ∙ s.1 ∙ sym (ratio_den c d q))
 
@@ -66,14 +63,13 @@ pub div_one : (a : ℤ) → int_div a (pos 1) ≡ a
 div_one (pos n) = ap pos (div-one n)
 div_one (negsuc n) = ap (λ n. neg_ℤ (pos n)) (div-one (suc n))
 
--- a fraction is that of its parts
 pub ratio_parts : (x : Rational) → ratio x.num x.den ≡ x
 ratio_parts x = same_parts _ _ (ratio_num x.num x.den x.positive ∙ rw x.lowest (div_one x.num)) (ratio_den x.num x.den x.positive ∙ rw x.lowest (div-one x.den))
 
 pub same_cross : (x y : Rational) → x.num *ℤ pos y.den ≡ y.num *ℤ pos x.den → x ≡ y
 same_cross x y e = sym (ratio_parts x) ∙ ratio_same x.num x.den y.num y.den x.positive y.positive e ∙ ratio_parts y
 
--- what holds of each fraction of two whole numbers holds of each fraction
+-- To prove a property of all fractions, it suffices to prove it of the ratio of any two integers.
 pub each_ratio : (P : Rational → Type 0) → ((n : ℤ) (d : ℕ) → 0 < d → P (ratio n d)) → (x : Rational) → P x
 each_ratio P h x = subst P (ratio_parts x) (h x.num x.den x.positive)
 
@@ -113,7 +109,6 @@ pub ratio-- : (a : ℤ) (b : ℕ) (c : ℤ) (d : ℕ) → 0 < b → 0 < d → ra
 unfolding ◌-ʳ◌
 ratio-- a b c d p q = ap (λ z. ratio a b +ʳ z) (ratio-neg c d q) ∙ ratio-+ a b (neg_ℤ c) d p q ∙ ap (λ n. ratio n (b * d)) (difference_num a (pos b) c (pos d))
 
--- the difference of two fractions by their parts
 pub difference_parts : (x y : Rational) → x -ʳ y ≡ ratio (x.num *ℤ pos y.den -ℤ y.num *ℤ pos x.den) (x.den * y.den)
 difference_parts x y = ap₂ (λ u v. u -ʳ v) (sym (ratio_parts x)) (sym (ratio_parts y)) ∙ ratio-- x.num x.den y.num y.den x.positive y.positive
 
@@ -195,7 +190,6 @@ pub ruleset ring = (zero-+ʳ, +ʳ-zero, zero-*ʳ, *ʳ-zero, one-*ʳ, *ʳ-one, *�
 cross_le : (m n m' n' a b c d : ℤ) (k l : ℕ) → 0 < k → 0 < l → m *ℤ b ≡ a *ℤ n → m' *ℤ d ≡ c *ℤ n' → pos k ≡ b *ℤ d → pos l ≡ n *ℤ n' → (a *ℤ d) ≤ℤ (c *ℤ b) → (m *ℤ n') ≤ℤ (m' *ℤ n)
 cross_le m n m' n' a b c d k l p q e f u v h = ≤ℤ-cancel _ _ k p (let h1 = simp whole.ring at (≤ℤ-scale _ _ l h) in let k1 = simp whole.ring at (ap (λ x. x *ℤ (n' *ℤ d)) e) in let k2 = simp whole.ring at (ap (λ x. x *ℤ (n *ℤ b)) f) in rw u (let h2 = simp (v, whole.ring) at h1 in simp whole.ring (omega (arith, ints))))
 
--- the order of two fractions is that of their cross products
 pub leq_ratio : (a : ℤ) (b : ℕ) (c : ℤ) (d : ℕ) → 0 < b → 0 < d → leqʳ (ratio a b) (ratio c d) ≡ le_z (a *ℤ pos d) (c *ℤ pos b)
 unfolding leqʳ
 leq_ratio a b c d p q = same_test _ _ _ _
@@ -219,7 +213,6 @@ ratio-≤_out a b c d p q h = test_le _ _ (sym (leq_ratio a b c d p q) ∙ h.hol
 pub ≤ʳ_refl : (x : Rational) → x ≤ʳ x
 ≤ʳ_refl x = order_cross x x (omega (arith, ints))
 
--- equal fractions have equal cross products
 pub ratio_equal_cross : (a : ℤ) (b : ℕ) (c : ℤ) (d : ℕ) → 0 < b → 0 < d → ratio a b ≡ ratio c d → a *ℤ pos d ≡ c *ℤ pos b
 ratio_equal_cross a b c d p q e =
     let h = ratio-≤_out a b c d p q (subst (λ z. ratio a b ≤ʳ z) e (≤ʳ_refl (ratio a b))) in
@@ -242,7 +235,6 @@ pub +ʳ_mono : (x x' y y' : Rational) → x ≤ʳ x' → y ≤ʳ y' → x +ʳ y 
 unfolding ◌+ʳ◌
 +ʳ_mono x x' y y' h k = ratio-≤ _ _ _ _ (mul-pos x.positive y.positive) (mul-pos x'.positive y'.positive) (sum_le x.num (pos x.den) y.num (pos y.den) x'.num (pos x'.den) y'.num (pos y'.den) (≤ℤ-scale _ _ (y.den * y'.den) (cross_order x x' h)) (≤ℤ-scale _ _ (x.den * x'.den) (cross_order y y' k)))
 
--- a fraction is nonnegative where its numerator is
 pub ratio_nonnegative : (a : ℤ) (b : ℕ) → 0 < b → pos 0 ≤ℤ a → zeroʳ ≤ʳ ratio a b
 unfolding zeroʳ
 ratio_nonnegative a b p h = ratio-≤ (pos 0) 1 a b (omega arith) p (omega (arith, ints))
@@ -258,7 +250,6 @@ scaled_le : (w : ℤ) (a b c d : ℤ) (e : ℕ) → pos 0 ≤ℤ w → (a *ℤ d
 scaled_le (pos w) a b c d e p h = scale_le (pos w) (pos e) (pos (w * e)) a b c d refl (≤ℤ-scale _ _ (w * e) h)
 scaled_le (negsuc w) a b c d e p h = absurd (omega (arith, ints))
 
--- a product with a nonnegative factor is monotone
 pub *ʳ_mono : (w x y : Rational) → zeroʳ ≤ʳ w → x ≤ʳ y → w *ʳ x ≤ʳ w *ʳ y
 unfolding ◌*ʳ◌
 *ʳ_mono w x y p h = ratio-≤ _ _ _ _ (mul-pos w.positive x.positive) (mul-pos w.positive y.positive) (scaled_le w.num x.num (pos x.den) y.num (pos y.den) w.den (nonnegative_num w p) (cross_order x y h))
@@ -276,7 +267,6 @@ pub zero-≤ʳ-one : zeroʳ ≤ʳ oneʳ
 unfolding oneʳ
 zero-≤ʳ-one = ratio_nonnegative (pos 1) 1 (omega arith) (omega (arith, ints))
 
--- adding what isn't negative makes nothing smaller
 pub ≤ʳ-+ʳ : (x y : Rational) → zeroʳ ≤ʳ y → x ≤ʳ x +ʳ y
 ≤ʳ-+ʳ x y p = subst (λ z. z ≤ʳ x +ʳ y) (+ʳ-zero x) (+ʳ_mono x x zeroʳ y (≤ʳ_refl x) p)
 

@@ -1,4 +1,4 @@
--- The floor and the ceiling are the nearest whole numbers.
+-- The floor and the ceiling are the nearest integers.
 use Rattle.std.proofs.Common.{◌≡◌, ℕ, ◌<◌, ◌≤◌, ◌^◌, subst, sym, ap, ap₂, ◌∙◌, arith, to_z, of_z, FitsSigned, unsigned_abs}
 use Rattle.std.specs.Prelude.{◌≤ℤ◌, ◌<ℤ◌}
 use Rattle.std.specs.Int.{int_div_euclid, w128}
@@ -38,7 +38,7 @@ above_whole : (n : ℤ) (x : Rational) → x ≤ʳ whole n → x.num ≤ℤ (n *
 unfolding whole
 above_whole n x h = rw (*ℤ-one x.num) at (ratio-≤_out x.num x.den n 1 x.positive (omega arith) (subst (λ y. y ≤ʳ ratio n 1) (sym (ratio_parts x)) h))
 
--- a whole number below a bound that it doesn't reach
+-- An integer whose multiple is at most `a` is at most `n`, if the multiple of `n` + 1 is above `a`.
 below_next : (m n a : ℤ) (b : ℕ) → (m *ℤ pos b) ≤ℤ a → a <ℤ ((n +ℤ pos 1) *ℤ pos b) → m ≤ℤ n
 below_next m n a b h k = by_lt_z n m (λ l. absurd (let s : ((n +ℤ pos 1) *ℤ pos b) ≤ℤ (m *ℤ pos b) = ≤ℤ-scale (n +ℤ pos 1) m b (omega (arith, ints)) in omega (arith, ints))) (λ l. l)
 
@@ -78,7 +78,7 @@ negated a = omega (arith, ints)
 pub neg_small : (a : ℤ) → unsigned_abs a < 2 ^ 127 → unsigned_abs (neg_ℤ a) < 2 ^ 127
 neg_small a h = omega (arith, ints)
 
--- the code's negation of a number that isn't the least one
+-- The code's negation of an integer other than the least one.
 pub record Turned (n : ℤ) : Type 0 where
   pub fits : FitsSigned w128 (pos 0 -ℤ to_z w128 (of_z w128 n))
   pub is : to_z w128 (of_z w128 (pos 0 -ℤ to_z w128 (of_z w128 n))) ≡ neg_ℤ n

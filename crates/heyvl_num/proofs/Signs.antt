@@ -1,5 +1,6 @@
--- Differences and signs of fractions, their order under positive factors, middles, and what a comparison says.
--- To import: `use Rattle.heyvl_num.proofs.Signs.{signs}`, or `using(heyvl_num::proofs::Signs::signs)`: negations go inward.
+-- Differences and signs of fractions, their order under positive factors, middles, and comparisons.
+-- To import: `use Rattle.heyvl_num.proofs.Signs.{signs}`, or
+-- `using(heyvl_num::proofs::Signs::signs)`, which moves negations inward.
 use Rattle.std.proofs.Common.{◌≡◌, ℕ, ◌<◌, ◌↔◌, ◌⊎◌, inl, inr, refl, sym, ap, ap₂, ◌∙◌, subst, arith, Bool, true, false}
 use Rattle.std.specs.Prelude.{◌<ℤ◌}
 use Rattle.std.specs.Int.Signed.{le_z}
@@ -31,7 +32,6 @@ neg_neg a = omega (arith, ints)
 pub negʳ-neg : (x : Rational) → negʳ (negʳ x) ≡ x
 negʳ-neg x = each_ratio (λ x. negʳ (negʳ x) ≡ x) (λ a b p. ap negʳ (ratio-neg a b p) ∙ ratio-neg (neg_ℤ a) b p ∙ ap (λ n. ratio n b) (neg_neg a)) x
 
--- what gives 0 with x is the negation of x
 pub negʳ_unique : (x y : Rational) → x +ʳ y ≡ zeroʳ → y ≡ negʳ x
 negʳ_unique x y e = sym (zero-+ʳ y) ∙ ap (λ z. z +ʳ y) (sym (neg-+ʳ x)) ∙ +ʳ_assoc (negʳ x) x y ∙ ap (λ z. negʳ x +ʳ z) e ∙ +ʳ-zero (negʳ x)
 
@@ -61,7 +61,6 @@ unfolding ◌-ʳ◌
 pub -ʳ-self : (x : Rational) → x -ʳ x ≡ zeroʳ
 -ʳ-self x = -ʳ-is x x ∙ +ʳ-neg x
 
--- what was taken away, added again
 pub -ʳ-+ʳ : (x y : Rational) → (x -ʳ y) +ʳ y ≡ x
 -ʳ-+ʳ x y = ap (λ z. z +ʳ y) (-ʳ-is x y) ∙ +ʳ_assoc x (negʳ y) y ∙ ap (λ z. x +ʳ z) (neg-+ʳ y) ∙ +ʳ-zero x
 
@@ -79,7 +78,6 @@ pub ≤ʳ-+ʳ_cancel : (x y z : Rational) → x +ʳ z ≤ʳ y +ʳ z → x ≤ʳ 
     minus_mono : (x y z : Rational) → x ≤ʳ y → x -ʳ z ≤ʳ y -ʳ z
     minus_mono x y z h = subst (λ u. u ≤ʳ y -ʳ z) (sym (-ʳ-is x z)) (subst (λ u. x +ʳ negʳ z ≤ʳ u) (sym (-ʳ-is y z)) (+ʳ_mono x y (negʳ z) (negʳ z) h (≤ʳ_refl (negʳ z))))
 
--- a difference is at most z where the first is at most z and the second together
 pub minus_at_most : (x y z : Rational) → (x -ʳ y ≤ʳ z) ↔ (x ≤ʳ z +ʳ y)
 minus_at_most x y z = (
   λ h. subst (λ u. u ≤ʳ z +ʳ y) (-ʳ-+ʳ x y) (+ʳ_mono (x -ʳ y) z y y h (≤ʳ_refl y)),
@@ -92,7 +90,6 @@ at_most_minus x y z = (
   λ h. ≤ʳ-+ʳ_cancel z (x -ʳ y) y (subst (λ u. z +ʳ y ≤ʳ u) (sym (-ʳ-+ʳ x y)) h),
 )
 
--- x is at most y where their difference isn't negative
 pub difference_nonnegative : (x y : Rational) → (zeroʳ ≤ʳ y -ʳ x) ↔ (x ≤ʳ y)
 difference_nonnegative x y = (
   λ h. subst (λ u. u ≤ʳ y) (zero-+ʳ x) ((at_most_minus y x zeroʳ).0 h),
@@ -105,7 +102,6 @@ negation_added x y = ap (λ z. z +ʳ negʳ y) (+ʳ-neg x) ∙ zero-+ʳ (negʳ y)
 negation_moved : (x y : Rational) → (y +ʳ negʳ x) +ʳ negʳ y ≡ negʳ x
 negation_moved x y = ap (λ z. z +ʳ negʳ y) (+ʳ_comm y (negʳ x)) ∙ +ʳ_assoc (negʳ x) y (negʳ y) ∙ ap (λ z. negʳ x +ʳ z) (+ʳ-neg y) ∙ +ʳ-zero (negʳ x)
 
--- a negation turns the order round
 pub negʳ_mono : (x y : Rational) → x ≤ʳ y → negʳ y ≤ʳ negʳ x
 negʳ_mono x y h = subst (λ u. u ≤ʳ negʳ x) (negation_added x y) (subst (λ u. (x +ʳ negʳ x) +ʳ negʳ y ≤ʳ u) (negation_moved x y) (+ʳ_mono (x +ʳ negʳ x) (y +ʳ negʳ x) (negʳ y) (negʳ y) (+ʳ_mono x y (negʳ x) (negʳ x) h (≤ʳ_refl (negʳ x))) (≤ʳ_refl (negʳ y))))
 
@@ -115,7 +111,6 @@ negatives-*ʳ x y = negʳ-*ʳ x (negʳ y) ∙ ap negʳ (*ʳ-negʳ x y) ∙ negʳ
 nonnegative_negation : (x : Rational) → x ≤ʳ zeroʳ → zeroʳ ≤ʳ negʳ x
 nonnegative_negation x h = subst (λ u. u ≤ʳ negʳ x) negʳ-zero (negʳ_mono x zeroʳ h)
 
--- the product of two fractions that aren't positive isn't negative
 pub nonpositive-*ʳ : (x y : Rational) → x ≤ʳ zeroʳ → y ≤ʳ zeroʳ → zeroʳ ≤ʳ x *ʳ y
 nonpositive-*ʳ x y h k = subst (λ u. zeroʳ ≤ʳ u) (negatives-*ʳ x y) (*ʳ_nonnegative (negʳ x) (negʳ y) (nonnegative_negation x h) (nonnegative_negation y k))
 
@@ -129,7 +124,6 @@ inverse n p = ratio-* (pos 1) n (pos n) 1 p (omega arith) ∙ ratio_same _ _ _ _
 undone : (n : ℕ) (x : Rational) → 0 < n → ratio (pos 1) n *ʳ (ratio (pos n) 1 *ʳ x) ≡ x
 undone n x p = sym (*ʳ_assoc (ratio (pos 1) n) (ratio (pos n) 1) x) ∙ ap (λ z. z *ʳ x) (inverse n p) ∙ one-*ʳ x
 
--- a positive whole number as a factor keeps the order, both ways
 pub times_whole : (n : ℕ) (x y : Rational) → 0 < n → (x ≤ʳ y) ↔ (whole (pos n) *ʳ x ≤ʳ whole (pos n) *ʳ y)
 unfolding whole
 times_whole n x y p = (
@@ -157,7 +151,6 @@ twice_middle : (x y : Rational) → middleʳ x y +ʳ middleʳ x y ≡ x +ʳ y
 unfolding middleʳ
 twice_middle x y = half-half (x +ʳ y)
 
--- the middle of two different fractions lies strictly between them
 pub middle_above : (x y : Rational) → x <ʳ y → x <ʳ middleʳ x y
 middle_above x y h = record { holds = not_true _ (λ k. let l : middleʳ x y ≤ʳ x = record { holds = k } in let m : y +ʳ x ≤ʳ x +ʳ x = subst (λ u. u ≤ʳ x +ʳ x) (twice_middle x y ∙ +ʳ_comm x y) (+ʳ_mono (middleʳ x y) x (middleʳ x y) x l l) in clash (leqʳ y x) (≤ʳ-+ʳ_cancel y x x m).holds h.holds) }
 
@@ -168,11 +161,9 @@ less_case : (x y : Rational) → (x ≤ʳ y) ⊎ (y ≤ʳ x) → leqʳ y x ≡ f
 less_case x y (inl h) e = h
 less_case x y (inr h) e = absurd (clash (leqʳ y x) h.holds e)
 
--- what is less is at most
 pub <ʳ-≤ʳ : (x y : Rational) → x <ʳ y → x ≤ʳ y
 <ʳ-≤ʳ x y h = less_case x y (≤ʳ_total x y) h.holds
 
--- what is less isn't at least
 pub <ʳ-not : (x y : Rational) → x <ʳ y → y ≤ʳ x → ⊥
 <ʳ-not x y h k = clash (leqʳ y x) k.holds h.holds
 
@@ -190,7 +181,6 @@ ranked Less f g h m = f m
 ranked Equal f g h m = g m
 ranked Greater f g h m = h m
 
--- less, equal or greater
 pub compareʳ-is : (x y : Rational) → MatchOrdering (compareʳ x y) (x <ʳ y) (x ≡ y) (y <ʳ x)
 unfolding compareʳ
 compareʳ-is x y = ranked _ (less_cross x y) (same_cross x y) (less_cross y x) (int_ranks (x.num *ℤ pos y.den) (y.num *ℤ pos x.den))

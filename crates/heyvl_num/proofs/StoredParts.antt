@@ -1,4 +1,4 @@
--- The numbers that a fraction stores are its numerator and its denominator.
+-- The integers that a fraction stores are its numerator and its denominator.
 use Rattle.std.proofs.Common.{◌≡◌, ◌∙◌, sym, ap, unsigned_abs, pos, ℤ, ◌^◌, ◌<◌}
 use Rattle.std.specs.Prelude.{◌<ℤ◌}
 use Rattle.heyvl_num.specs.Gcd.{gcd}

@@ -1,5 +1,5 @@
--- Laws of minimum, maximum, the two implications and the truncated difference.
--- To import: `use Rattle.heyvl_num.proofs.ValueOperators.{min_below_left}` and the like.
+-- Laws of minimum, maximum, the two implications and the truncated difference. To import: `use
+-- Rattle.heyvl_num.proofs.ValueOperators.{min_below_left}`.
 use Rattle.std.proofs.Common.{◌≡◌, ◌↔◌, ◌⊎◌, inl, inr, refl, sym, subst, Bool, true, false}
 use Rattle.heyvl_num.specs.Rational.{Rational, ◌-ʳ◌, ◌+ʳ◌, leqʳ, ◌≤ʳ◌}
 use Rattle.heyvl_num.specs.Value.{Value, zeroᵛ, ◌+ᵛ◌, leqᵛ, ◌≤ᵛ◌}
@@ -9,7 +9,7 @@ use Rattle.heyvl_num.proofs.Rationals.{≤ʳ_total}
 use Rattle.heyvl_num.proofs.Signs.{minus_at_most}
 use Rattle.heyvl_num.proofs.Values.{≤ᵛ_refl, ≤ᵛ_trans, ≤ᵛ_antisym, ≤ᵛ_total, ≤ᵛ_infinite, infinite_above, finite_order, order_finite, finite-+, ≤ᵛ-+ᵛ_left}
 
--- what a test of the order says
+-- The two cases of a test of the order.
 tested : (x y : Value) (b : Bool) → leqᵛ x y ≡ b → ((leqᵛ x y ≡ true) × (x ≤ᵛ y)) ⊎ ((leqᵛ x y ≡ false) × (y ≤ᵛ x))
 tested x y true e = inl (e, record { holds = e })
 tested x y false e = inr (e, other (≤ᵛ_total x y))
@@ -139,7 +139,6 @@ implies_out x y z k = go (implies_cases x y)
     go (inl h) = ≤ᵛ_trans (minᵛ z x) x y (min_below_right z x) h.1
     go (inr h) = ≤ᵛ_trans (minᵛ z x) z y (min_below_left z x) (subst (λ u. z ≤ᵛ u) h.0 k)
 
--- z is at most the implication where the minimum of z and x is at most y
 pub implies_adjoint : (x y z : Value) → (z ≤ᵛ impliesᵛ x y) ↔ (minᵛ z x ≤ᵛ y)
 implies_adjoint x y z = (implies_out x y z, implies_in x y z)
 
@@ -173,7 +172,6 @@ coimplies_out x y z k = go (coimplies_cases x y)
     go (inl h) = ≤ᵛ_trans y x (maxᵛ x z) h.1 (max_above_left x z)
     go (inr h) = ≤ᵛ_trans y z (maxᵛ x z) (subst (λ u. u ≤ᵛ z) h.0 k) (max_above_right x z)
 
--- the coimplication is at most a z that isn't negative where y is at most the maximum of x and z
 pub coimplies_adjoint : (x y z : Value) → zeroᵛ ≤ᵛ z → (coimpliesᵛ x y ≤ᵛ z) ↔ (y ≤ᵛ maxᵛ x z)
 coimplies_adjoint x y z p = (coimplies_out x y z, coimplies_in x y z p)
 
@@ -209,7 +207,6 @@ monus_finite x y z false p e = rw e (λ h. ≤ᵛ_trans (finite x) (finite y) (z
     below (inl h) = h
     below (inr h) = absurd (let k = h.holds in cc)
 
--- the truncated difference is at most a z that isn't negative where x is at most z and y together
 pub monus_adjoint : (x y z : Value) → zeroᵛ ≤ᵛ z → (monusᵛ x y ≤ᵛ z) ↔ (x ≤ᵛ z +ᵛ y)
 unfolding monusᵛ ◌+ᵛ◌
 monus_adjoint (finite x) (finite y) z p = monus_finite x y z (leqʳ y x) p refl

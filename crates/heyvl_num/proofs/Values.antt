@@ -1,8 +1,11 @@
--- Laws of the values: the semiring of sums and products, and its order.
--- To import: `use Rattle.heyvl_num.proofs.Values.{semiring, ordered}`, or `using(heyvl_num::proofs::Values::ordered)`.
--- Both rule sets serve `simp`, `search`, `grind` and `using(..)`.
--- Sums and products are associative and commutative for all values. A product distributes over a sum where the factor is
--- finite, or where the parts of the sum are nonnegative (infinity times 1 - 1 is 0, and infinity plus infinity isn't).
+-- Laws of values: the semiring of sums and products, and its order. To import: `use
+-- Rattle.heyvl_num.proofs.Values.{semiring, ordered}`, or
+-- `using(heyvl_num::proofs::Values::ordered)`. Both rule sets serve `simp`, `search`, `grind` and
+-- `using(..)`.
+--
+-- Sums and products are associative and commutative for all values. A product distributes over a
+-- sum if the factor is finite, or if the terms of the sum are nonnegative (infinity times 1 - 1 is
+-- 0, but infinity times 1 plus infinity times -1 is infinity).
 use Rattle.std.proofs.Common.{◌≡◌, ◌⊎◌, ◌↔◌, inl, inr, refl, sym, ap, ◌∙◌, subst, arith, Bool, true, false, ◌&&◌, ◌||◌}
 use Rattle.std.specs.Prelude.{◌<◌, ◌≤ℤ◌}
 use Rattle.std.proofs.Math.IntN.{ℤ, pos, negsuc, ◌+ℤ◌, ◌*ℤ◌}
@@ -71,7 +74,7 @@ pub is_zero-* : (x y : Rational) → is_zeroʳ (x *ʳ y) ≡ (is_zeroʳ x || is_
 unfolding ◌*ʳ◌ is_zeroʳ
 is_zero-* x y = is_zero_ratio _ _ (mul-pos x.positive y.positive) ∙ product_num x.num y.num _ refl
 
--- a sum of fractions that aren't negative is 0 where both are
+-- A sum of nonnegative fractions is 0 if and only if both are.
 sum_num : (m n : ℤ) (b d : ℕ) → 0 < b → 0 < d → pos 0 ≤ℤ m → pos 0 ≤ℤ n → (z : ℤ) → z ≡ m *ℤ pos d +ℤ n *ℤ pos b → is_zero_num z ≡ (is_zero_num m && is_zero_num n)
 sum_num (negsuc m) n b d p q h k z e = absurd (omega (arith, ints))
 sum_num (pos m) (negsuc n) b d p q h k z e = absurd (omega (arith, ints))
@@ -115,7 +118,6 @@ unfolding ◌*ᵛ◌ infinite_times zeroᵛ
 pub *ᵛ_left_comm : (x y z : Value) → x *ᵛ (y *ᵛ z) ≡ y *ᵛ (x *ᵛ z)
 *ᵛ_left_comm x y z = rw (← *ᵛ_assoc x y z, *ᵛ_comm x y, *ᵛ_assoc)
 
--- 0 times everything, infinity too, is 0
 pub zero-*ᵛ : (x : Value) → zeroᵛ *ᵛ x ≡ zeroᵛ
 unfolding ◌*ᵛ◌ infinite_times zeroᵛ
 zero-*ᵛ (finite x) = ap finite (zero-*ʳ x)
@@ -132,7 +134,6 @@ one-*ᵛ infinite = rw is_zero-one
 pub *ᵛ-one : (x : Value) → x *ᵛ oneᵛ ≡ x
 *ᵛ-one x = *ᵛ_comm x oneᵛ ∙ one-*ᵛ x
 
--- infinity times a fraction, by its numerator
 pub infinite_times_zero : (x : Rational) → x.num ≡ pos 0 → finite x ≡ infinite *ᵛ finite x
 unfolding ◌*ᵛ◌ infinite_times is_zeroʳ zeroᵛ
 infinite_times_zero x e = ap finite (is_zero-is x (ap is_zero_num e)) ∙ ap (λ n. infinite_times (is_zero_num n)) (sym e)
@@ -157,11 +158,9 @@ pub finite_product : (x y : Rational) → finite (x *ʳ y) ≡ finite x *ᵛ fin
 unfolding ◌*ᵛ◌
 finite_product x y = refl
 
--- two finite factors, one after the other; for all fractions and values
 pub scale_scale : (a b : Rational) (v : Value) → finite a *ᵛ (finite b *ᵛ v) ≡ finite (a *ʳ b) *ᵛ v
 scale_scale a b v = sym (*ᵛ_assoc (finite a) (finite b) v) ∙ ap (λ w. w *ᵛ v) (finite-* a b)
 
--- a finite factor distributes over every sum
 pub scale-+ᵛ : (w : Rational) (x y : Value) → finite w *ᵛ (x +ᵛ y) ≡ (finite w *ᵛ x) +ᵛ (finite w *ᵛ y)
 unfolding ◌*ᵛ◌ ◌+ᵛ◌ infinite_times zeroᵛ
 scale-+ᵛ w x y = grind (arith, *ʳ-+ʳ, is_zero-is, is_zero-zero, zero-*ʳ, zero-+ʳ, +ʳ-zero)
@@ -186,7 +185,6 @@ infinity_spread : (x y : Rational) → zeroʳ ≤ʳ x → zeroʳ ≤ʳ y → inf
 unfolding ◌*ᵛ◌ ◌+ᵛ◌ infinite_times zeroᵛ
 infinity_spread x y p q = let e = is_zero-+ x y p q in grind (arith, e, zero-+ʳ, +ʳ-zero)
 
--- every factor distributes over a sum of values that aren't negative
 pub *ᵛ-+ᵛ : (x y z : Value) → zeroᵛ ≤ᵛ y → zeroᵛ ≤ᵛ z → x *ᵛ (y +ᵛ z) ≡ (x *ᵛ y) +ᵛ (x *ᵛ z)
 unfolding ◌*ᵛ◌ ◌+ᵛ◌ infinite_times zeroᵛ
 *ᵛ-+ᵛ (finite x) y z p q = scale-+ᵛ x y z
@@ -201,7 +199,7 @@ pub +ᵛ-*ᵛ : (x y z : Value) → zeroᵛ ≤ᵛ x → zeroᵛ ≤ᵛ y → (x
 pub +ᵛ-scale : (x y : Value) (w : Rational) → (x +ᵛ y) *ᵛ finite w ≡ (x *ᵛ finite w) +ᵛ (y *ᵛ finite w)
 +ᵛ-scale x y w = rw (*ᵛ_comm (x +ᵛ y) (finite w), *ᵛ_comm x (finite w), *ᵛ_comm y (finite w)) (scale-+ᵛ w x y)
 
--- a sum of two weights that aren't negative
+-- Weights distribute over a value, also an infinite one, if they are nonnegative.
 pub weights-* : (a b : Rational) (x : Value) → zeroʳ ≤ʳ a → zeroʳ ≤ʳ b → finite (a +ʳ b) *ᵛ x ≡ (finite a *ᵛ x) +ᵛ (finite b *ᵛ x)
 weights-* a b x p q = ap (λ w. w *ᵛ x) (sym (finite-+ a b)) ∙ +ᵛ-*ᵛ (finite a) (finite b) x (finite_nonnegative a p) (finite_nonnegative b q)
 
@@ -212,7 +210,6 @@ unfolding leqᵛ
 ≤ᵛ_refl (finite x) = order_finite x x (≤ʳ_refl x)
 ≤ᵛ_refl infinite = record { holds = refl }
 
--- everything is at most infinity
 pub ≤ᵛ_infinite : (x : Value) → x ≤ᵛ infinite
 unfolding leqᵛ
 ≤ᵛ_infinite (finite x) = record { holds = refl }
@@ -261,7 +258,6 @@ unfolding infinite_times
 below_infinite_times w x true e = subst (λ (v : Rational). finite v *ᵛ x ≤ᵛ zeroᵛ) (sym (is_zero-is w e)) (zero_scale x zeroᵛ (≤ᵛ_refl zeroᵛ))
 below_infinite_times w x false e = ≤ᵛ_infinite _
 
--- a factor that isn't negative is monotone
 pub scale_mono : (w : Rational) (x y : Value) → zeroʳ ≤ʳ w → x ≤ᵛ y → finite w *ᵛ x ≤ᵛ finite w *ᵛ y
 unfolding ◌*ᵛ◌
 scale_mono w (finite x) (finite y) p h = order_finite _ _ (*ʳ_mono w x y p (finite_order x y h))
@@ -279,7 +275,6 @@ infinite_mono (finite x) (finite y) p h = below_times_infinite x y (is_zeroʳ y)
 infinite_mono x infinite p h = ≤ᵛ_infinite _
 infinite_mono infinite (finite y) p h = absurd (infinite_above y h)
 
--- products of values that aren't negative are monotone
 pub *ᵛ_mono_left : (w x y : Value) → zeroᵛ ≤ᵛ w → zeroᵛ ≤ᵛ x → x ≤ᵛ y → w *ᵛ x ≤ᵛ w *ᵛ y
 *ᵛ_mono_left (finite w) x y p q h = scale_mono w x y (nonnegative_finite w p) h
 *ᵛ_mono_left infinite x y p q h = rw (*ᵛ_comm infinite x, *ᵛ_comm infinite y) (infinite_mono x y q h)
@@ -306,11 +301,9 @@ pub *ᵛ_nonnegative : (x y : Value) → zeroᵛ ≤ᵛ x → zeroᵛ ≤ᵛ y �
 pub scale_nonnegative : (w : Rational) (x : Value) → zeroʳ ≤ʳ w → zeroᵛ ≤ᵛ x → zeroᵛ ≤ᵛ finite w *ᵛ x
 scale_nonnegative w x p q = *ᵛ_nonnegative (finite w) x (finite_nonnegative w p) q
 
--- a greater weight gives no less
 pub weight_mono : (w w' : Rational) (x : Value) → zeroʳ ≤ʳ w → zeroᵛ ≤ᵛ x → w ≤ʳ w' → finite w *ᵛ x ≤ᵛ finite w' *ᵛ x
 weight_mono w w' x p q h = *ᵛ_mono_right x (finite w) (finite w') q (finite_nonnegative w p) (order_finite w w' h)
 
--- adding what isn't negative makes nothing smaller
 pub ≤ᵛ-+ᵛ : (x y : Value) → zeroᵛ ≤ᵛ y → x ≤ᵛ x +ᵛ y
 ≤ᵛ-+ᵛ x y p = subst (λ z. z ≤ᵛ x +ᵛ y) (+ᵛ-zero x) (+ᵛ_mono x x zeroᵛ y (≤ᵛ_refl x) p)
 
@@ -330,7 +323,6 @@ half_nonnegative : zeroʳ ≤ʳ halfʳ
 unfolding halfʳ
 half_nonnegative = ratio_nonnegative (pos 1) 2 (omega arith) (omega (arith, ints))
 
--- two halves make the whole, infinity too
 pub half-half : (x : Value) → (finite halfʳ *ᵛ x) +ᵛ (finite halfʳ *ᵛ x) ≡ x
 half-half x = sym (weights-* halfʳ halfʳ x half_nonnegative half_nonnegative) ∙ ap (λ w. finite w *ᵛ x) halves ∙ unit_times x
 
@@ -349,7 +341,6 @@ ranked Less f g h m = f m
 ranked Equal f g h m = g m
 ranked Greater f g h m = h m
 
--- less, equal or greater
 pub compareᵛ-is : (x y : Value) → MatchOrdering (compareᵛ x y) (x <ᵛ y) (x ≡ y) (y <ᵛ x)
 compareᵛ-is (finite x) (finite y) = ranked (compareʳ x y) (less_finite x y) (λ e. ap finite e) (less_finite y x) (compareʳ-is x y)
 compareᵛ-is (finite x) infinite = finite_below_infinite x
@@ -360,11 +351,9 @@ less_case : (x y : Value) → (x ≤ᵛ y) ⊎ (y ≤ᵛ x) → leqᵛ y x ≡ f
 less_case x y (inl h) e = h
 less_case x y (inr h) e = absurd (let k = h.holds in cc)
 
--- what is less is at most
 pub <ᵛ-≤ᵛ : (x y : Value) → x <ᵛ y → x ≤ᵛ y
 <ᵛ-≤ᵛ x y h = less_case x y (≤ᵛ_total x y) h.holds
 
--- what is less isn't at least
 pub <ᵛ-not : (x y : Value) → x <ᵛ y → y ≤ᵛ x → ⊥
 <ᵛ-not x y h k = let e = h.holds in let f = k.holds in cc
 
@@ -381,11 +370,9 @@ finite_cancel (finite x) (finite y) z h = order_finite x y (≤ʳ-+ʳ_cancel x y
 finite_cancel x infinite z h = ≤ᵛ_infinite x
 finite_cancel infinite (finite y) z h = absurd (infinite_above (y +ʳ z) h)
 
--- a finite term on both sides doesn't matter to the order
 pub finite_terms : (x y : Value) (z : Rational) → (x ≤ᵛ y) ↔ (x +ᵛ finite z ≤ᵛ y +ᵛ finite z)
 finite_terms x y z = (λ h. +ᵛ_mono x y (finite z) (finite z) h (≤ᵛ_refl (finite z)), finite_cancel x y z)
 
--- a weight that isn't 0 keeps infinity
 pub scale-infinite : (w : Rational) → is_zeroʳ w ≡ false → finite w *ᵛ infinite ≡ infinite
 unfolding ◌*ᵛ◌ infinite_times
 scale-infinite w e = rw e

@@ -1,6 +1,6 @@
--- Laws of weighted sums.
--- To import: `use Rattle.heyvl_num.proofs.WeightedSums.{weighted_sum-append}` and the like, or the rule set
--- `using(heyvl_num::proofs::WeightedSums::weighted)`, which takes sums of lists apart.
+-- Laws of weighted sums. To import: `use
+-- Rattle.heyvl_num.proofs.WeightedSums.{weighted_sum-append}`, or the rule set
+-- `using(heyvl_num::proofs::WeightedSums::weighted)`, which takes sums over lists apart.
 use Rattle.std.proofs.Common.{◌≡◌, List, [], ◌∷◌, ◌++◌, refl, sym, ap, ap₂, ◌∙◌, subst}
 use Rattle.heyvl_num.specs.Rational.{Rational, zeroʳ, oneʳ, ◌+ʳ◌, ◌*ʳ◌, ◌≤ʳ◌}
 use Rattle.heyvl_num.specs.Value.{Value, zeroᵛ, oneᵛ, ◌+ᵛ◌, ◌*ᵛ◌, ◌≤ᵛ◌}
@@ -26,13 +26,11 @@ pub total_weight-cons : {A : Type 0} (w : Rational) (a : A) (xs : List (Rational
 unfolding total_weight
 total_weight-cons w a xs = refl
 
--- appended lists
 pub weighted_sum-append : {A : Type 0} (f : A → Value) (xs ys : List (Rational × A)) → weighted_sum f (xs ++ ys) ≡ weighted_sum f xs +ᵛ weighted_sum f ys
 unfolding weighted_sum
 weighted_sum-append f [] ys = sym (zero-+ᵛ (weighted_sum f ys))
 weighted_sum-append f (x ∷ xs) ys = ap (λ v. (finite x.0 *ᵛ f x.1) +ᵛ v) (weighted_sum-append f xs ys) ∙ sym (+ᵛ_assoc (finite x.0 *ᵛ f x.1) (weighted_sum f xs) (weighted_sum f ys))
 
--- a factor of all weights, moved out
 pub weighted_sum-scaled : {A : Type 0} (f : A → Value) (w : Rational) (xs : List (Rational × A)) → weighted_sum f (scaled w xs) ≡ finite w *ᵛ weighted_sum f xs
 unfolding weighted_sum scaled
 weighted_sum-scaled f w [] = sym (*ᵛ-zero (finite w))
@@ -41,7 +39,6 @@ weighted_sum-scaled f w (x ∷ xs) = ap₂ (λ u v. u +ᵛ v) (sym (scale_scale 
 swapped : (a b : Rational) (v : Value) → finite a *ᵛ (finite b *ᵛ v) ≡ finite b *ᵛ (finite a *ᵛ v)
 swapped a b v = *ᵛ_left_comm (finite a) (finite b) v
 
--- a factor of all values, moved out
 pub weighted_sum-factor : {A : Type 0} (f : A → Value) (w : Rational) (xs : List (Rational × A)) → weighted_sum (λ a. finite w *ᵛ f a) xs ≡ finite w *ᵛ weighted_sum f xs
 unfolding weighted_sum
 weighted_sum-factor f w [] = sym (*ᵛ-zero (finite w))
@@ -50,25 +47,22 @@ weighted_sum-factor f w (x ∷ xs) = ap₂ (λ u v. u +ᵛ v) (swapped x.0 w (f 
 middle_swap : (x y z w : Value) → (x +ᵛ y) +ᵛ (z +ᵛ w) ≡ (x +ᵛ z) +ᵛ (y +ᵛ w)
 middle_swap x y z w = +ᵛ_assoc x y (z +ᵛ w) ∙ ap (λ u. x +ᵛ u) (+ᵛ_left_comm y z w) ∙ sym (+ᵛ_assoc x z (y +ᵛ w))
 
--- a sum of values
 pub weighted_sum-+ : {A : Type 0} (f g : A → Value) (xs : List (Rational × A)) → weighted_sum (λ a. f a +ᵛ g a) xs ≡ weighted_sum f xs +ᵛ weighted_sum g xs
 unfolding weighted_sum
 weighted_sum-+ f g [] = sym (zero-+ᵛ zeroᵛ)
 weighted_sum-+ f g (x ∷ xs) = ap₂ (λ u v. u +ᵛ v) (scale-+ᵛ x.0 (f x.1) (g x.1)) (weighted_sum-+ f g xs) ∙ middle_swap (finite x.0 *ᵛ f x.1) (finite x.0 *ᵛ g x.1) (weighted_sum f xs) (weighted_sum g xs)
 
--- joined lists, with multiplied weights
 pub weighted_sum-joined : {A B : Type 0} (f : B → Value) (k : A → List (Rational × B)) (xs : List (Rational × A)) → weighted_sum f (joined k xs) ≡ weighted_sum (λ a. weighted_sum f (k a)) xs
 unfolding weighted_sum joined
 weighted_sum-joined f k [] = refl
 weighted_sum-joined f k (x ∷ xs) = weighted_sum-append f (scaled x.0 (k x.1)) (joined k xs) ∙ ap₂ (λ u v. u +ᵛ v) (weighted_sum-scaled f x.0 (k x.1)) (weighted_sum-joined f k xs)
 
--- equal values
 pub weighted_sum-same : {A : Type 0} (f g : A → Value) (xs : List (Rational × A)) → ((a : A) → f a ≡ g a) → weighted_sum f xs ≡ weighted_sum g xs
 unfolding weighted_sum
 weighted_sum-same f g [] h = refl
 weighted_sum-same f g (x ∷ xs) h = ap₂ (λ u v. u +ᵛ v) (ap (λ v. finite x.0 *ᵛ v) (h x.1)) (weighted_sum-same f g xs h)
 
--- greater values
+-- ---- Order and signs
 pub weighted_sum_mono : {A : Type 0} (f g : A → Value) (xs : List (Rational × A)) → IsWeighted xs → ((a : A) → f a ≤ᵛ g a) → weighted_sum f xs ≤ᵛ weighted_sum g xs
 unfolding weighted_sum
 weighted_sum_mono f g [] p h = ≤ᵛ_refl zeroᵛ
@@ -88,7 +82,6 @@ nothing_times : (v : Value) → finite zeroʳ *ᵛ v ≡ zeroᵛ
 unfolding zeroᵛ
 nothing_times v = zero-*ᵛ v
 
--- one value for all outcomes
 pub weighted_sum-constant : {A : Type 0} (v : Value) (xs : List (Rational × A)) → IsWeighted xs → weighted_sum (λ a. v) xs ≡ finite (total_weight xs) *ᵛ v
 unfolding weighted_sum total_weight
 weighted_sum-constant v [] p = sym (nothing_times v)
@@ -98,7 +91,6 @@ unit_times : (v : Value) → finite oneʳ *ᵛ v ≡ v
 unfolding oneᵛ
 unit_times v = one-*ᵛ v
 
--- weights of at most 1 in all don't lead above a bound of all values
 pub weighted_sum_bounded : {A : Type 0} (f : A → Value) (v : Value) (xs : List (Rational × A)) → IsWeighted xs → total_weight xs ≤ʳ oneʳ → zeroᵛ ≤ᵛ v → ((a : A) → f a ≤ᵛ v) → weighted_sum f xs ≤ᵛ v
 weighted_sum_bounded f v xs p t q h = ≤ᵛ_trans (weighted_sum f xs) (weighted_sum (λ a. v) xs) v (weighted_sum_mono f (λ a. v) xs p h) (subst (λ u. u ≤ᵛ v) (sym (weighted_sum-constant v xs p)) (subst (λ u. finite (total_weight xs) *ᵛ v ≤ᵛ u) (unit_times v) (weight_mono (total_weight xs) oneʳ v (total_weight_nonnegative xs p) q t)))
 

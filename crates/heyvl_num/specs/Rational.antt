@@ -1,5 +1,6 @@
--- Exact fractions of whole numbers. They are kept in lowest terms, so that two fractions are equal exactly where their
--- cross products agree; sums, products and the order are those of the cross products too.
+-- Exact fractions of integers. They are kept in lowest terms, so that two fractions are equal if
+-- and only if their cross products agree. Sums, products and the order are computed by cross
+-- products.
 use Rattle.std.specs.Prelude.{◌≡◌, ℕ, ◌*◌, ◌/◌, ◌<◌, ℤ, pos, negsuc, ◌+ℤ◌, ◌*ℤ◌, Bool, true, false}
 use Rattle.std.specs.Int.RustNames.{int_div, unsigned_abs}
 use Rattle.std.specs.Int.Signed.{le_z}
@@ -28,16 +29,23 @@ abs_neg : (n : ℕ) → unsigned_abs (neg_ℤ (pos n)) ≡ n
 abs_neg zero = refl
 abs_neg (suc n) = refl
 
--- The absolute value of a quotient by a natural number is the quotient of the absolute value.
+-- The absolute value of the quotient of `a` and `g` is the quotient of the absolute value of `a`
+-- and `g`.
 pub abs_div : (a : ℤ) (g : ℕ) → unsigned_abs (int_div a (pos g)) ≡ unsigned_abs a / g
 abs_div (pos n) g = refl
 abs_div (negsuc n) g = abs_neg (suc n / g)
 
--- A whole number and a positive one, each divided by the greatest common divisor of both, have no common divisor but 1.
-pub quotients_lowest : (a : ℤ) (d : ℕ) → gcd (unsigned_abs (int_div a (pos (gcd (unsigned_abs a) (suc d))))) (suc d / gcd (unsigned_abs a) (suc d)) ≡ 1
-quotients_lowest a d = ap (λ x. gcd x (suc d / gcd (unsigned_abs a) (suc d))) (abs_div a (gcd (unsigned_abs a) (suc d))) ∙ gcd-quotients (unsigned_abs a) (suc d) (zero-lt-suc d)
+-- The integer `a` and the positive number `d` + 1, each divided by their greatest common divisor,
+-- have the greatest common divisor 1.
+pub quotients_lowest : (a : ℤ) (d : ℕ)
+    → gcd (unsigned_abs (int_div a (pos (gcd (unsigned_abs a) (suc d)))))
+    (suc d / gcd (unsigned_abs a) (suc d)) ≡ 1
+quotients_lowest a d = ap (λ x. gcd x (suc d / gcd (unsigned_abs a) (suc d)))
+    (abs_div a (gcd (unsigned_abs a) (suc d))) ∙ gcd-quotients (unsigned_abs a) (suc d)
+    (zero-lt-suc d)
 
--- The fraction a/b of two whole numbers: both divided by their greatest common divisor. It is 0 where b is 0.
+-- `ratio a b`: the fraction a/b in lowest terms; 0 if `b` is 0. For example, the ratio of -6 and 4
+-- is -3/2.
 unfoldable pub ratio : ℤ → ℕ → Rational
 unfolding gcd gcd_steps
 ratio a zero = record { num = pos 0; den = 1; positive = zero-lt-suc 0; lowest = refl }
@@ -72,15 +80,15 @@ negʳ x = ratio (neg_ℤ x.num) x.den
 unfoldable pub ◌-ʳ◌ : Rational → Rational → Rational
 x -ʳ y = x +ʳ negʳ y
 
--- Whether a/b is at most c/d: whether a*d is at most c*b.
+-- `leqʳ x y`: the test of `x` <= `y`. For `x` = a/b and `y` = c/d it tests a*d <= c*b.
 unfoldable pub leqʳ : Rational → Rational → Bool
 leqʳ x y = le_z (x.num *ℤ pos y.den) (y.num *ℤ pos x.den)
 
--- x is at most y.
+-- `x` is at most `y`.
 pub record ◌≤ʳ◌ (x y : Rational) : Type 0 where
   pub holds : leqʳ x y ≡ true
 
--- x is less than y: y isn't at most x.
+-- `x` is less than `y`: `y` is not at most `x`.
 pub record ◌<ʳ◌ (x y : Rational) : Type 0 where
   pub holds : leqʳ y x ≡ false
 
@@ -88,10 +96,10 @@ pub record ◌<ʳ◌ (x y : Rational) : Type 0 where
 unfoldable pub halfʳ : Rational
 halfʳ = ratio (pos 1) 2
 
--- The fraction halfway between two.
+-- The fraction halfway between `x` and `y`.
 unfoldable pub middleʳ : Rational → Rational → Rational
 middleʳ x y = halfʳ *ʳ (x +ʳ y)
 
--- How a/b compares with c/d: as a*d with c*b.
+-- `compareʳ x y`: how `x` compares with `y`. For `x` = a/b and `y` = c/d it compares a*d with c*b.
 unfoldable pub compareʳ : Rational → Rational → Ordering
 compareʳ x y = int_cmp (x.num *ℤ pos y.den) (y.num *ℤ pos x.den)

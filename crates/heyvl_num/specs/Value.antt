@@ -1,6 +1,7 @@
--- Values: exact fractions and infinity. They are what formulas mean, and what rewards, posts and sums over runs are made of.
--- Source: the quantities of HeyLo (Schroeer, Batz, Kaminski, Katoen, Matheja, OOPSLA 2023), with fractions in place of reals,
--- and negative fractions for the values of type Int. No program makes a negative fraction meet infinity.
+-- Values: exact fractions and infinity. Formulas denote values; rewards, posts and sums over runs
+-- are values too. Source: the quantities of HeyLo (Schroeer, Batz, Kaminski, Katoen, Matheja,
+-- OOPSLA 2023), with fractions in place of reals, and with negative fractions as values of the type
+-- Int. No program combines a negative fraction with infinity.
 use Rattle.std.specs.Prelude.{◌≡◌, Bool, true, false, ℤ, pos, negsuc}
 use Prim.Native.Nat.{zero, suc}
 use Rattle.std.specs.declared.cmp.Ordering.{Ordering}
@@ -24,51 +25,51 @@ zeroᵛ = finite zeroʳ
 unfoldable pub oneᵛ : Value
 oneᵛ = finite oneʳ
 
--- Whether a whole number is 0.
+-- The test of an integer for 0.
 abbrev pub is_zero_num : ℤ → Bool
 is_zero_num (pos zero) = true
 is_zero_num (pos (suc n)) = false
 is_zero_num (negsuc n) = false
 
--- Whether a fraction is 0.
+-- The test of a fraction for 0.
 unfoldable pub is_zeroʳ : Rational → Bool
 is_zeroʳ x = is_zero_num x.num
 
--- The sum. With infinity it is infinity.
+-- The sum; infinity if a term is infinite.
 unfoldable pub ◌+ᵛ◌ : Value → Value → Value
 finite x +ᵛ finite y = finite (x +ʳ y)
 finite x +ᵛ infinite = infinite
 infinite +ᵛ finite y = infinite
 infinite +ᵛ infinite = infinite
 
--- Infinity times a fraction that is 0, or isn't.
+-- `infinite_times z`: infinity times a fraction, where `z` says whether the fraction is 0.
 unfoldable pub infinite_times : Bool → Value
 infinite_times true = zeroᵛ
 infinite_times false = infinite
 
--- The product. 0 times infinity is 0.
+-- The product, in which 0 times infinity is 0. Any other fraction times infinity is infinity.
 unfoldable pub ◌*ᵛ◌ : Value → Value → Value
 finite x *ᵛ finite y = finite (x *ʳ y)
 finite x *ᵛ infinite = infinite_times (is_zeroʳ x)
 infinite *ᵛ finite y = infinite_times (is_zeroʳ y)
 infinite *ᵛ infinite = infinite
 
--- Whether x is at most y. Everything is at most infinity.
+-- `leqᵛ x y`: the test of `x` <= `y`. Everything is at most infinity.
 unfoldable pub leqᵛ : Value → Value → Bool
 leqᵛ (finite x) (finite y) = leqʳ x y
 leqᵛ (finite x) infinite = true
 leqᵛ infinite (finite y) = false
 leqᵛ infinite infinite = true
 
--- x is at most y.
+-- `x` is at most `y`.
 pub record ◌≤ᵛ◌ (x y : Value) : Type 0 where
   pub holds : leqᵛ x y ≡ true
 
--- x is less than y: y isn't at most x.
+-- `x` is less than `y`: `y` is not at most `x`.
 pub record ◌<ᵛ◌ (x y : Value) : Type 0 where
   pub holds : leqᵛ y x ≡ false
 
--- How x compares with y.
+-- `compareᵛ x y`: how `x` compares with `y`.
 abbrev pub compareᵛ : Value → Value → Ordering
 compareᵛ (finite x) (finite y) = compareʳ x y
 compareᵛ (finite x) infinite = Less

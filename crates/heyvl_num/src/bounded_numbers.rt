@@ -1,8 +1,8 @@
-//! Whole numbers below 2^127 in absolute value: all of i128 but its least number.
+//! Integers below 2^127 in absolute value, which are the i128 except -2^127.
 ghost use Rattle.std.specs.Prelude.{◌+ℤ◌, ◌-ℤ◌, ◌*ℤ◌, SomeIff, IsTrue};
 ghost use Rattle.heyvl_num.specs.Exact.{is_small};
 
-/// The product, or None where it reaches 2^127 in absolute value.
+/// Returns the product, or `None` if it reaches 2^127 in absolute value.
 pub fn product(a: i128, b: i128) -> Option<i128>
     ensures { SomeIff result (IsTrue (is_small (a *ℤ b))) (a *ℤ b) }
 {
@@ -12,7 +12,7 @@ pub fn product(a: i128, b: i128) -> Option<i128>
     }
 }
 
-/// The sum, or None where it reaches 2^127 in absolute value.
+/// Returns the sum, or `None` if it reaches 2^127 in absolute value.
 pub fn sum(a: i128, b: i128) -> Option<i128>
     ensures { SomeIff result (IsTrue (is_small (a +ℤ b))) (a +ℤ b) }
 {
@@ -22,7 +22,7 @@ pub fn sum(a: i128, b: i128) -> Option<i128>
     }
 }
 
-/// The difference, or None where it reaches 2^127 in absolute value.
+/// Returns the difference, or `None` if it reaches 2^127 in absolute value.
 pub fn difference(a: i128, b: i128) -> Option<i128>
     ensures { SomeIff result (IsTrue (is_small (a -ℤ b))) (a -ℤ b) }
 {

@@ -3,7 +3,7 @@ ghost use Rattle.std.specs.Prelude.{◌≡◌};
 ghost use Rattle.std.specs.Int.{IsGcd};
 ghost use Rattle.heyvl_num.specs.Gcd as euclid;
 
-/// The greatest number that divides both; 0 for 0 and 0.
+/// Returns the greatest number that divides both `a` and `b`; 0 if both are 0.
 pub fn gcd(a: u128, b: u128) -> u128
     ensures value { result ≡ euclid.gcd a b }
     ensures greatest { IsGcd a b result }

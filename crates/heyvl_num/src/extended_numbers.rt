@@ -17,7 +17,7 @@ pub enum Ext {
 }
 
 impl Ext {
-    /// The number 0.
+    /// Returns the number 0.
     pub fn zero() -> Ext
         ensures value { value_of result ≡ zeroᵛ }
         ensures number { value_of result ≡ finite zeroʳ }
@@ -25,15 +25,16 @@ impl Ext {
         Ext::Fin(Frac::zero())
     }
 
-    /// The number 1.
+    /// Returns the number 1.
     pub fn one() -> Ext
         ensures { value_of result ≡ oneᵛ }
     {
         Ext::Fin(Frac::one())
     }
 
-    /// The sum, which is infinity where one of the two is. None exactly where both are finite and the sum of the
-    /// fractions is None.
+    /// Returns the sum, which is infinite if `self` or `other` is.
+    ///
+    /// `None` if both are finite and `Frac::add` returns `None`.
     pub fn add(&self, other: &Ext) -> Option<Ext>
         ensures { option_map value_of result ≡ exact_sumᵛ (value_of self.now) (value_of other.now) }
     {
@@ -43,10 +44,13 @@ impl Ext {
         }
     }
 
-    /// The product; 0 times infinity is 0. None exactly where both are finite and the product of the fractions is None.
-    /// A negative fraction times infinity has no meaning, and gives infinity.
+    /// Returns the product, in which 0 times infinity is 0. A negative fraction times infinity has
+    /// no meaning; its result is infinity.
+    ///
+    /// `None` if both are finite and `Frac::mul` returns `None`.
     pub fn mul(&self, other: &Ext) -> Option<Ext>
-        ensures { option_map value_of result ≡ exact_productᵛ (value_of self.now) (value_of other.now) }
+        ensures { option_map value_of result
+            ≡ exact_productᵛ (value_of self.now) (value_of other.now) }
     {
         match (self, other) {
             (Ext::Fin(x), Ext::Fin(y)) => Some(Ext::Fin(x.mul(y)?)),
@@ -56,8 +60,9 @@ impl Ext {
         }
     }
 
-    /// The order, in which infinity is above every fraction. None exactly where both are finite and the order of the
-    /// fractions is None.
+    /// Returns the order, in which infinity is above every fraction.
+    ///
+    /// `None` if both are finite and `Frac::compare` returns `None`.
     pub fn compare(&self, other: &Ext) -> Option<Ordering>
         ensures { result ≡ exact_orderᵛ (value_of self.now) (value_of other.now) }
     {
@@ -70,7 +75,7 @@ impl Ext {
     }
 }
 
-/// Infinity times a fraction: 0 where the fraction is 0.
+/// Returns infinity times `x`, which is 0 if `x` is 0.
 fn infinite_times(x: &Frac) -> Ext
     ensures { value_of result ≡ infinite *ᵛ finite x.now }
 {

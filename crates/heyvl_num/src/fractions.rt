@@ -1,10 +1,13 @@
 //! Exact fractions in lowest terms.
-ghost use Rattle.std.specs.Prelude.{◌≡◌, ◌<◌, ◌^◌, pos, ◌*ℤ◌, ◌<ℤ◌, unsigned_abs, neg_ℤ, int_div, SomeIff, IsTrue};
+ghost use Rattle.std.specs.Prelude.{◌≡◌, ◌<◌, ◌^◌, pos, ◌*ℤ◌, ◌<ℤ◌, unsigned_abs, neg_ℤ, int_div};
+ghost use Rattle.std.specs.Prelude.{SomeIff, IsTrue};
 ghost use Rattle.std.proofs.Common.{ap, ◌∙◌};
 ghost use Rattle.heyvl_num.specs.Gcd as euclid;
 ghost use Rattle.heyvl_num.specs.Rational.{Rational, ratio, zeroʳ, oneʳ};
-ghost use Rattle.heyvl_num.specs.RationalParts.{ratio_num-lowest, ratio_den-lowest, abs-pos, pos-abs};
-ghost use Rattle.heyvl_num.specs.Exact.{is_small, quotient_fits, exact_quotient, exact_sum, exact_difference, exact_product, exact_order};
+ghost use Rattle.heyvl_num.specs.RationalParts.{ratio_num-lowest, ratio_den-lowest, abs-pos};
+ghost use Rattle.heyvl_num.specs.RationalParts.{pos-abs};
+ghost use Rattle.heyvl_num.specs.Exact.{is_small, quotient_fits, exact_quotient, exact_sum};
+ghost use Rattle.heyvl_num.specs.Exact.{exact_difference, exact_product, exact_order};
 ghost use Rattle.heyvl_num.specs.Rounding.{floorʳ, ceilʳ, IsFloor, IsCeiling};
 
 use crate::bounded_numbers::{difference, product, sum};
@@ -12,7 +15,8 @@ use crate::divisors::gcd;
 use std::cmp::Ordering;
 use std::marker::Model;
 
-/// A fraction in lowest terms with a positive denominator. Both parts stay below 2^127 in absolute value.
+/// A fraction in lowest terms with a positive denominator. The absolute values of the numerator and
+/// the denominator are below 2^127.
 #[derive(Clone, Copy, Debug, PartialEq, Eq, Hash)]
 pub struct Frac {
     num: i128,
@@ -24,15 +28,22 @@ impl Model for Frac {
 
     ghost view = { λ f. ratio f.num (unsigned_abs f.den) };
 
-    ghost invariant = { λ f. (pos 0 <ℤ f.den) × (unsigned_abs f.num < 2 ^ 127) × (euclid.gcd (unsigned_abs f.num) (unsigned_abs f.den) ≡ 1) };
+    ghost invariant = { λ f. (pos 0 <ℤ f.den) × (unsigned_abs f.num < 2 ^ 127)
+        × (euclid.gcd (unsigned_abs f.num) (unsigned_abs f.den) ≡ 1) };
 
     ghost inverse = { λ r. record { num = r.num; den = pos r.den } };
 
-    ghost inverse_ok = { λ a h i. record { num = ratio_num-lowest a.num (unsigned_abs a.den) (abs-pos a.den h.0) h.2 i; den = (ap pos (ratio_den-lowest a.num (unsigned_abs a.den) (abs-pos a.den h.0) h.2) ∙ pos-abs a.den h.0) i } };
+    ghost inverse_ok = { λ a h i.
+        record {
+          num = ratio_num-lowest a.num (unsigned_abs a.den) (abs-pos a.den h.0) h.2 i;
+          den = (ap pos (ratio_den-lowest a.num (unsigned_abs a.den) (abs-pos a.den h.0) h.2) ∙
+              pos-abs a.den h.0) i;
+        } };
 }
 
 impl Frac {
-    /// The fraction `num / den`; None exactly where `den` is 0 or one of the two is the least i128.
+    /// Returns the fraction `num / den`, or `None` if `den` is 0 or one of the two is the least
+    /// i128.
     pub fn new(num: i128, den: i128) -> Option<Frac>
         ensures { result ≡ exact_quotient num den }
     {
@@ -45,35 +56,38 @@ impl Frac {
         }
     }
 
-    /// The number 0.
+    /// Returns the number 0.
     pub fn zero() -> Frac
         ensures { result ≡ zeroʳ }
     {
         Frac::new(0, 1).unwrap()
     }
 
-    /// The number 1.
+    /// Returns the number 1.
     pub fn one() -> Frac
         ensures { result ≡ oneʳ }
     {
         Frac::new(1, 1).unwrap()
     }
 
-    /// The numerator in lowest terms, which has the sign of the fraction.
+    /// Returns the numerator in lowest terms, which has the sign of the fraction.
     pub fn num(&self) -> i128
         ensures { result ≡ self.now.num }
     {
         self.num
     }
 
-    /// The denominator in lowest terms, above 0.
+    /// Returns the denominator in lowest terms, which is positive.
     pub fn den(&self) -> i128
         ensures { result ≡ pos self.now.den }
     {
         self.den
     }
 
-    /// The sum. For a/b and c/d, None exactly where `a*d`, `c*b`, `b*d` or `a*d + c*b` reaches 2^127 in absolute value.
+    /// Returns the sum.
+    ///
+    /// `None` if, for `self` = a/b and `other` = c/d, one of `a*d`, `c*b`, `b*d` and `a*d + c*b`
+    /// reaches 2^127 in absolute value.
     pub fn add(&self, other: &Frac) -> Option<Frac>
         ensures { result ≡ exact_sum self.now other.now }
     {
@@ -84,8 +98,10 @@ impl Frac {
         Some(Frac::reduced(num, den))
     }
 
-    /// The difference. For a/b and c/d, None exactly where `a*d`, `c*b`, `b*d` or `a*d - c*b` reaches 2^127 in absolute
-    /// value.
+    /// Returns the difference.
+    ///
+    /// `None` if, for `self` = a/b and `other` = c/d, one of `a*d`, `c*b`, `b*d` and `a*d - c*b`
+    /// reaches 2^127 in absolute value.
     pub fn sub(&self, other: &Frac) -> Option<Frac>
         ensures { result ≡ exact_difference self.now other.now }
     {
@@ -96,7 +112,10 @@ impl Frac {
         Some(Frac::reduced(num, den))
     }
 
-    /// The product. For a/b and c/d, None exactly where `a*c` or `b*d` reaches 2^127 in absolute value.
+    /// Returns the product.
+    ///
+    /// `None` if, for `self` = a/b and `other` = c/d, `a*c` or `b*d` reaches 2^127 in absolute
+    /// value.
     pub fn mul(&self, other: &Frac) -> Option<Frac>
         ensures { result ≡ exact_product self.now other.now }
     {
@@ -105,7 +124,10 @@ impl Frac {
         Some(Frac::reduced(num, den))
     }
 
-    /// The order. For a/b and c/d, None exactly where `a*d` or `c*b` reaches 2^127 in absolute value.
+    /// Returns how `self` compares with `other`.
+    ///
+    /// `None` if, for `self` = a/b and `other` = c/d, `a*d` or `c*b` reaches 2^127 in absolute
+    /// value.
     pub fn compare(&self, other: &Frac) -> Option<Ordering>
         ensures { result ≡ exact_order self.now other.now }
     {
@@ -114,7 +136,7 @@ impl Frac {
         Some(here.cmp(&there))
     }
 
-    /// The greatest whole number that is at most the fraction.
+    /// Returns the largest integer that is at most the fraction.
     pub fn floor(&self) -> i128
         ensures value { result ≡ floorʳ self.now }
         ensures greatest { IsFloor self.now result }
@@ -122,7 +144,7 @@ impl Frac {
         self.num().div_euclid(self.den())
     }
 
-    /// The least whole number that is at least the fraction.
+    /// Returns the least integer that is at least the fraction.
     pub fn ceil(&self) -> i128
         ensures value { result ≡ ceilʳ self.now }
         ensures least { IsCeiling self.now result }
@@ -138,19 +160,22 @@ impl Frac {
     }
 
     fn num_times_num(&self, other: &Frac) -> Option<i128>
-        ensures { SomeIff result (IsTrue (is_small (self.now.num *ℤ other.now.num))) (self.now.num *ℤ other.now.num) }
+        ensures { SomeIff result (IsTrue (is_small (self.now.num *ℤ other.now.num)))
+            (self.now.num *ℤ other.now.num) }
     {
         product(self.num(), other.num())
     }
 
     fn num_times_den(&self, other: &Frac) -> Option<i128>
-        ensures { SomeIff result (IsTrue (is_small (self.now.num *ℤ pos other.now.den))) (self.now.num *ℤ pos other.now.den) }
+        ensures { SomeIff result (IsTrue (is_small (self.now.num *ℤ pos other.now.den)))
+            (self.now.num *ℤ pos other.now.den) }
     {
         product(self.num(), other.den())
     }
 
     fn den_times_den(&self, other: &Frac) -> Option<i128>
-        ensures { SomeIff result (IsTrue (is_small (pos self.now.den *ℤ pos other.now.den))) (pos self.now.den *ℤ pos other.now.den) }
+        ensures { SomeIff result (IsTrue (is_small (pos self.now.den *ℤ pos other.now.den)))
+            (pos self.now.den *ℤ pos other.now.den) }
     {
         product(self.den(), other.den())
     }
@@ -167,7 +192,7 @@ impl Frac {
     }
 }
 
-/// Whether the two are the parts of a fraction, and below 2^127 in absolute value.
+/// Returns whether `den` is not 0 and both numbers are below 2^127 in absolute value.
 #[tactic(auto, unfolding(crate::specs::Exact::quotient_fits))]
 fn is_quotient(num: i128, den: i128) -> bool
     ensures { result ≡ quotient_fits num den }
@@ -175,7 +200,7 @@ fn is_quotient(num: i128, den: i128) -> bool
     den != 0 && num != i128::MIN && den != i128::MIN
 }
 
-/// The quotient, rounded toward 0.
+/// Returns the quotient, rounded toward 0.
 fn quotient(a: i128, divisor: i128) -> i128
     requires { pos 0 <ℤ divisor }
     ensures { result ≡ int_div a divisor }

@@ -1,10 +1,10 @@
-//! The laws of fractions and values. Each function does nothing: its contract is the law, and the definitions are what the
-//! crates above reason about.
+//! Laws of fractions and values. Each function does nothing: its contract is the law. The
+//! definitions are the ones that the crates above reason about.
 ghost use Rattle.heyvl_num.specs.FractionLaws as fraction;
 ghost use Rattle.heyvl_num.specs.ValueLaws as value;
 ghost use Rattle.heyvl_num.specs.OperatorLaws as operator;
 
-/// Fractions are pairs of whole numbers, read by their cross products.
+/// States equality, arithmetic and order of fractions by their cross products.
 pub fn fractions_by_cross_products()
     ensures equal { fraction.FractionsEqual }
     ensures added { fraction.FractionsAdded }
@@ -16,7 +16,7 @@ pub fn fractions_by_cross_products()
     ensures parts { fraction.FractionsHaveParts }
 {}
 
-/// Sums, products and negations of fractions.
+/// States the laws of sums, products and negatives of fractions.
 pub fn ring_of_fractions()
     ensures sum_associative { fraction.AdditionAssociates }
     ensures sum_commutative { fraction.AdditionCommutes }
@@ -33,7 +33,7 @@ pub fn ring_of_fractions()
     ensures halves { fraction.HalvesAddUp }
 {}
 
-/// The order of fractions, and what keeps it.
+/// States the laws of the order of fractions.
 pub fn order_of_fractions()
     ensures reflexive { fraction.OrderReflexive }
     ensures transitive { fraction.OrderTransitive }
@@ -48,7 +48,7 @@ pub fn order_of_fractions()
     ensures dense { fraction.MiddlesLieBetween }
 {}
 
-/// Sums and products of values, in which 0 times infinity is 0.
+/// States the laws of sums and products of values, in which 0 times infinity is 0.
 pub fn semiring_of_values()
     ensures sum_associative { value.AdditionAssociates }
     ensures sum_commutative { value.AdditionCommutes }
@@ -63,7 +63,7 @@ pub fn semiring_of_values()
     ensures halves { value.HalvesAddUp }
 {}
 
-/// The order of values, and what keeps it.
+/// States the laws of the order of values.
 pub fn order_of_values()
     ensures reflexive { value.OrderReflexive }
     ensures transitive { value.OrderTransitive }
@@ -77,7 +77,8 @@ pub fn order_of_values()
     ensures compared { value.ValuesCompared }
 {}
 
-/// Minimum, maximum, the implications and the truncated difference, each by what it is the best of.
+/// States what the minimum, the maximum, the implications and the truncated difference are: the
+/// largest or the least value with a property.
 pub fn operators_on_values()
     ensures minimum { value.MinimumGreatest }
     ensures maximum { value.MaximumLeast }
@@ -86,7 +87,7 @@ pub fn operators_on_values()
     ensures difference { value.DifferenceAdjoint }
 {}
 
-/// Sums of weighted outcomes.
+/// States the laws of weighted sums.
 pub fn weighted_sums()
     ensures appended { value.SumsOfAppendedLists }
     ensures factors { value.FactorsMoveOut }
@@ -95,7 +96,7 @@ pub fn weighted_sums()
     ensures bounded { value.WeightedSumsBounded }
 {}
 
-/// Whole numbers stay whole.
+/// States that integers are closed under the operators on fractions and values.
 pub fn whole_numbers()
     ensures sums { operator.WholeSums }
     ensures differences { operator.WholeDifferences }
@@ -105,7 +106,7 @@ pub fn whole_numbers()
     ensures values { operator.WholeValues }
 {}
 
-/// What the operators on values keep of the order and of the sign.
+/// States which operators on values are monotone, and the sign of the coimplication.
 pub fn growth_of_operators()
     ensures minimum { operator.MinimumGrows }
     ensures maximum { operator.MaximumGrows }
@@ -114,7 +115,7 @@ pub fn growth_of_operators()
     ensures nonnegative { operator.CoimplicationNonnegative }
 {}
 
-/// What the weights of outcomes add up to, and the sign of weighted sums.
+/// States how weights add up, and the sign of weighted sums.
 pub fn weights_of_outcomes()
     ensures nothing { operator.WeightOfNothing }
     ensures more { operator.WeightsAddUp }

@@ -1,4 +1,5 @@
-//! Exact fractions, and numbers extended by infinity.
+//! Exact fractions, and fractions extended by infinity. Arithmetic is exact: an operation whose
+//! integers overflow 127 bits returns `None`.
 #![tactic(auto)]
 
 mod bounded_numbers;

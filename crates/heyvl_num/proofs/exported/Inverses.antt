@@ -1,2 +1,2 @@
--- Meant for the proofs of other crates. Inverses of positive fractions.
+-- For the proofs of other crates: inverses of positive fractions.
 pub use Rattle.heyvl_num.proofs.Inverses.{inverse, Inverse}

@@ -1,4 +1,4 @@
--- Meant for the proofs of other crates. What the operators on values keep of the order and of the sign.
+-- For the proofs of other crates: order and signs of the operators on values.
 use Rattle.std.proofs.Common.{◌≡◌, true, false, cond, ◌⊎◌, inl, inr}
 use Rattle.heyvl_num.specs.Value.{Value, zeroᵛ, leqᵛ, ◌≤ᵛ◌}
 use Rattle.heyvl_num.specs.ValueOperators.{coimpliesᵛ}

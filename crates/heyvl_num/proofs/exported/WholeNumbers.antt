@@ -1,4 +1,5 @@
--- Meant for the proofs of other crates. Whole numbers stay whole under sums, products, negatives and the other operators.
+-- For the proofs of other crates: integers are closed under sums, products, negatives and the other
+-- operators.
 use Rattle.std.proofs.Common.{◌≡◌, ℕ, ◌<◌, ◌≤◌, sym, subst, arith, Bool, true, false, cond}
 use Rattle.std.specs.Prelude.{ℤ}
 use Rattle.std.proofs.Math.Nat.{zero-lt-suc, div-le_self}

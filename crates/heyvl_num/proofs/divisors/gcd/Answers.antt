@@ -4,7 +4,7 @@ use Rattle.heyvl_num.specs.Gcd.{gcd, gcd_steps}
 use Rattle.heyvl_num.specs.GcdLaws.{gcd-is, gcd-mod, gcd-zero}
 use Rattle.heyvl_num.proofs.divisors.gcd.Goals as goal
 
--- What the code returns is the greatest number that divides both.
+-- The result of `gcd` is the greatest number that divides both arguments.
 greatest : (a b n : ℕ) → n ≡ gcd a b → IsGcd a b n
 greatest a b n e = subst (λ (g : ℕ). IsGcd a b g) (sym e) (gcd-is a b)
 

@@ -8,7 +8,7 @@ use Rattle.heyvl_num.specs.Rational.{Rational, ratio}
 use Rattle.heyvl_num.proofs.StoredParts.{num_is, den_is}
 use Rattle.heyvl_num.proofs.fractions.FracHash.hash.Goals as goal
 
--- the parts that are fed to the hasher are those of the fraction
+-- The integers that are hashed are the parts of the fraction.
 fed : {S : Type 0} (write : S → List ℕ → S) (s t u : S) (x : Rational) (a d : ℤ) → t ≡ write s (le_bytes 16 (of_z w128 a)) → u ≡ write t (le_bytes 16 (of_z w128 d)) → ratio a (unsigned_abs d) ≡ x → (pos 0 <ℤ d) × (unsigned_abs a < 2 ^ 127) × (gcd (unsigned_abs a) (unsigned_abs d) ≡ 1) → u ≡ write (write s (le_bytes 16 (of_z w128 x.num))) (le_bytes 16 (of_z w128 (pos x.den)))
 fed write s t u x a d f g e h = g ∙ ap₂ write (f ∙ ap₂ write (λ i. s) (ap₂ (λ (z y : ℤ). le_bytes 16 (of_z w128 z)) (num_is x a d e h) (num_is x a d e h))) (ap₂ (λ (z y : ℤ). le_bytes 16 (of_z w128 z)) (den_is x a d e h) (den_is x a d e h))
 
