@@ -1,6 +1,6 @@
 //! Kinds of checks.
 
-/// Which of the four checks a statement is.
+/// One of the four kinds of checks.
 #[derive(Clone, Copy, Debug, PartialEq, Eq, Hash)]
 pub enum CheckKind {
     Assert,

@@ -1,4 +1,6 @@
 //! What texts, formulas and acts share: places in a file, names, and kinds of checks.
+//!
+//! `AllocError` means that memory ran out.
 #![tactic(auto)]
 
 mod checks;

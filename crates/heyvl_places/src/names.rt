@@ -11,19 +11,19 @@ use std::alloc::{AllocError, Global};
 use std::hash::{Hash, Hasher};
 use std::marker::Model;
 
-/// How many bytes a name keeps in place.
+/// The largest number of bytes that a name stores without an allocation.
 const IN_PLACE: usize = 22;
 
-/// The bytes of a name.
+/// How the bytes of a name are stored.
 #[derive(Drop)]
 pub(crate) enum Spelling {
-    /// As many bytes of the array as the number says.
+    /// The first bytes of the array, as many as the number says.
     Short(u8, [u8; IN_PLACE]),
-    /// More bytes than the array has.
+    /// More than 22 bytes.
     Long(Box<Vec<u8>>),
 }
 
-/// The spelling of a text that fits in place.
+/// Returns the spelling of a text that fits into the array.
 fn short_spelling(text: &[u8]) -> Spelling
     requires { length text.now ≤ 22 }
     ensures { spelled result ≡ text.now }
@@ -33,8 +33,9 @@ fn short_spelling(text: &[u8]) -> Spelling
     Spelling::Short(text.len() as u8, kept)
 }
 
-/// The spelling of the first n bytes, which fit in place. Where more bytes stand there, as many as the array has are
-/// kept, for these are moved at once.
+/// Returns the spelling of the first `n` bytes, which fit into the array.
+///
+/// If `bytes` fills the array, all 22 bytes are copied, because that is a single move.
 fn front_spelling(bytes: &[u8], n: usize) -> Spelling
     requires inside { n ≤ length bytes.now }
     requires short { n ≤ 22 }
@@ -46,7 +47,7 @@ fn front_spelling(bytes: &[u8], n: usize) -> Spelling
     }
 }
 
-/// The spelling of a text of any length.
+/// Returns the spelling of a text of any length.
 fn long_spelling(alloc: Global, text: &[u8]) -> Result<Spelling, AllocError>
     ensures { IfOk result (λ spelling. spelled spelling ≡ text.now) }
 {
@@ -91,7 +92,7 @@ impl Hash for Name {
 }
 
 impl Name {
-    /// The name that these bytes spell.
+    /// Returns the name with these bytes.
     pub fn new(alloc: Global, bytes: &[u8]) -> Result<Name, AllocError>
         ensures { IfOk result (λ name. name ≡ bytes.now) }
     {
@@ -106,7 +107,7 @@ impl Name {
         }
     }
 
-    /// The name that the first n bytes spell.
+    /// Returns the name with the first `n` bytes.
     pub fn of_front(alloc: Global, bytes: &[u8], n: usize) -> Result<Name, AllocError>
         requires { n ≤ length bytes.now }
         ensures { IfOk result (λ name. name ≡ take n bytes.now) }
@@ -122,7 +123,7 @@ impl Name {
         }
     }
 
-    /// A name of its own that is equal to this one.
+    /// Returns a copy of the name.
     pub fn copy(&self, alloc: Global) -> Result<Name, AllocError>
         ensures { IfOk result (λ copied. copied ≡ self.now) }
     {
@@ -136,7 +137,7 @@ impl Name {
         }
     }
 
-    /// The bytes of the name.
+    /// Returns the bytes of the name.
     pub fn as_bytes(&self) -> &[u8]
         ensures { result.now ≡ self.now }
     {
@@ -146,7 +147,7 @@ impl Name {
         }
     }
 
-    /// Copies of these names, in their order.
+    /// Returns copies of the names, in their order.
     pub fn copy_all(alloc: Global, all: &[Name]) -> Result<Vec<Name>, AllocError>
         ensures { IfOk result (λ copied. copied.items ≡ all.now) }
     {

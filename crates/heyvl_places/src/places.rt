@@ -5,7 +5,7 @@ ghost use Rattle.std.specs.Prelude.{◌<◌, ◌^◌, ◌≡◌, ◌≤◌, leng
 
 use std::fmt;
 
-/// A line and a column of a file, both from 1. A column counts bytes.
+/// A line and a column of a file, both counted from 1. A column counts bytes.
 #[derive(Clone, Copy, Debug, PartialEq, Eq)]
 pub struct Place {
     pub line: u32,
@@ -18,7 +18,7 @@ impl fmt::Display for Place {
     }
 }
 
-/// The line and column of the byte at this index, or of the end of the file.
+/// Returns the line and column of the byte at `index`, or of the end of the file.
 pub fn place_at(bytes: &[u8], index: u32) -> Place
     requires inside { index ≤ length bytes.now }
     requires short { length bytes.now < 2 ^ 31 }

@@ -1,8 +1,8 @@
-//! Places in the bytes of a file.
+//! Ranges of bytes in a file.
 
 use std::fmt;
 
-/// The bytes from one place up to, and without, another. Both count from 0.
+/// The bytes with an index from `from` up to, but not including, `to`. Indices count from 0.
 #[derive(Clone, Copy, Debug, PartialEq, Eq, Hash)]
 pub struct Span {
     pub from: u32,

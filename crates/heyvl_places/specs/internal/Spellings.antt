@@ -1,4 +1,4 @@
--- The bytes of a name.
+-- The bytes of a name, by how they are stored.
 use Rattle.heyvl_places.specs.declared.names.Spelling.{Spelling}
 use Rattle.std.specs.Prelude.{List, min, take, ℕ}
 
