@@ -3,7 +3,7 @@
 ghost use Rattle.heyvl_syntax.specs.internal.Fronts.{first_close};
 ghost use Rattle.std.specs.Prelude.{◌+◌, ◌≡◌, ◌≤◌, IfSome, length};
 
-/// How many bytes stand before the first `*/`, or None where there is none.
+/// Returns the number of bytes before the first `*/`, or `None` if there is none.
 pub(crate) fn first_close(bytes: &[u8]) -> Option<usize>
     ensures value { result ≡ first_close bytes.now }
     ensures within { IfSome result (λ inner. inner + 2 ≤ length bytes.now) }

@@ -1,10 +1,10 @@
-//! Copies put together, or the want of memory that left one of them out.
+//! Combinations of copies that may have failed.
 
 ghost use Rattle.std.specs.Prelude.{IfOk, Ok, ◌≡◌};
 
 use std::alloc::{AllocError, Global};
 
-/// A copy in a box.
+/// Returns the copy in a box.
 pub(crate) fn in_box<T: Drop>(
     alloc: Global,
     copied: Result<T, AllocError>,
@@ -14,7 +14,7 @@ pub(crate) fn in_box<T: Drop>(
     Ok(Box::new(alloc, copied?)?)
 }
 
-/// Two copies beside each other.
+/// Returns both copies as a pair.
 pub(crate) fn beside<A: Drop, B: Drop>(
     first: Result<A, AllocError>,
     second: Result<B, AllocError>,

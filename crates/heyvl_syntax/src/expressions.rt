@@ -8,8 +8,8 @@ use crate::{BinaryOp, Lit, TypeName, UnaryOp};
 use heyvl_places::{Name, Span};
 use std::alloc::{AllocError, Global};
 
-/// An expression, with its parentheses. Each node has its place: that of the operator for an operator between two
-/// operands, and else from the first byte of the node to the end of its last token.
+/// An expression, including its parentheses. Each node has its place: that of the operator for a
+/// binary operator, and otherwise from the first byte of the node to the end of its last token.
 pub enum Expr {
     /// A number literal.
     Number(Lit, Span),
@@ -21,17 +21,17 @@ pub enum Expr {
     Name(Name, Span),
     /// `(a)`
     Group(Box<Expr>, Span),
-    /// `[a]`: 1 where a holds, else 0.
+    /// `[a]`: 1 if `a` holds, otherwise 0.
     Bracket(Box<Expr>, Span),
-    /// `?(a)`: infinity where a holds, else 0.
+    /// `?(a)`: infinity if `a` holds, otherwise 0.
     Embed(Box<Expr>, Span),
-    /// An operator before its operand.
+    /// A prefix operator with its operand.
     Unary(UnaryOp, Box<Expr>, Span),
-    /// An operator between its operands.
+    /// A binary operator with its operands.
     Binary(BinaryOp, Box<Expr>, Box<Expr>, Span),
-    /// `ite(a, b, c)`: b where a holds, else c.
+    /// `ite(a, b, c)`: `b` if `a` holds, otherwise `c`.
     Choice(Box<Expr>, Box<Expr>, Box<Expr>, Span),
-    /// `sup x: T. a` where the flag is true, else `inf x: T. a`.
+    /// `sup x: T. a` if the flag is true, otherwise `inf x: T. a`.
     Bound(bool, Name, TypeName, Box<Expr>, Span),
 }
 
@@ -54,7 +54,7 @@ impl Drop for Expr {
 }
 
 impl Expr {
-    /// An expression of its own that is equal to this one.
+    /// Returns a copy of the expression.
     pub fn copy(&self, alloc: Global) -> Result<Expr, AllocError>
         ensures { IfOk result (λ copied. expression copied ≡ expression self.now) }
     {
@@ -90,14 +90,14 @@ impl Expr {
         }
     }
 
-    /// The expression in a box.
+    /// Returns the expression in a box.
     pub fn boxed(self, alloc: Global) -> Result<Box<Expr>, AllocError>
         ensures { IfOk result (λ boxed. boxed.value ≡ self) }
     {
         Ok(Box::new(alloc, self)?)
     }
 
-    /// Copies of these expressions, in their order.
+    /// Returns copies of the expressions, in their order.
     pub fn copy_all(alloc: Global, all: &[Expr]) -> Result<Vec<Expr>, AllocError>
         ensures { IfOk result (λ copied. expressions copied.items ≡ expressions all.now) }
     {

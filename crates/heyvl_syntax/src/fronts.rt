@@ -1,6 +1,9 @@
-//! What stands at the front of bytes.
+//! What bytes begin with.
 
-ghost use Rattle.heyvl_syntax.specs.internal.Fronts.{FitsIn, IsWithin, block_front, first_close, found_of, front_of, key_of, mark_front, mark_of, slash_front, token_front, word_front, word_text};
+ghost use Rattle.heyvl_syntax.specs.internal.Fronts.{FitsIn, IsWithin, block_front, first_close};
+ghost use Rattle.heyvl_syntax.specs.internal.Fronts.{found_of, front_of, key_of, mark_front};
+ghost use Rattle.heyvl_syntax.specs.internal.Fronts.{mark_of, slash_front, token_front, word_front};
+ghost use Rattle.heyvl_syntax.specs.internal.Fronts.{word_text};
 ghost use Rattle.heyvl_syntax.specs.Bytes.{is_letter};
 ghost use Rattle.std.specs.Prelude.{◌≡◌, ◌≤◌, drop, length, take};
 
@@ -10,26 +13,26 @@ use crate::keys::{Key, key_of};
 use crate::literals::number_len;
 use crate::marks::{Mark, mark_of};
 
-/// What stands at the front of bytes, and how many bytes it has.
+/// What bytes begin with, and its length in bytes.
 #[derive(Clone, Copy)]
 pub(crate) enum Front {
-    /// No byte is left.
+    /// There are no bytes.
     End,
     /// A byte of white space, or a comment.
     Blank(usize),
-    /// A word that is no key.
+    /// An identifier.
     Word(usize),
-    /// A number, within the limits of literals or not.
+    /// A number, which may exceed the limits of literals.
     Number(usize),
-    /// A key.
+    /// A keyword.
     Key(Key, usize),
-    /// A mark.
+    /// A symbol.
     Mark(Mark, usize),
-    /// A fault with its number, of other bytes than a number's.
+    /// An error other than a number that exceeds the limits: its number and its length.
     Fault(u8, usize),
 }
 
-/// The comment that begins with `/*`.
+/// Returns the comment or the error of bytes that begin with `/*`.
 fn block_front(bytes: &[u8]) -> Front
     requires { 2 ≤ length bytes.now }
     ensures value { found_of bytes.now result ≡ block_front (first_close (drop 2 bytes.now)) }
@@ -41,7 +44,8 @@ fn block_front(bytes: &[u8]) -> Front
     }
 }
 
-/// How many bytes a letter, `_` or `\` has, with the letters, digits and `_` behind it.
+/// Returns the length of the first byte, which is a letter, `_` or `\`, and the letters, digits and
+/// `_` after it.
 fn text_len(bytes: &[u8]) -> usize
     ensures value { take result bytes.now ≡ word_text bytes.now }
     ensures within { result ≤ length bytes.now }
@@ -52,9 +56,11 @@ fn text_len(bytes: &[u8]) -> usize
     }
 }
 
-/// The word or key at the front, where `begins` tells whether its first byte begins a word.
+/// Returns the keyword, the identifier or the error with which `bytes` begin. `begins` says whether
+/// their first byte may begin an identifier.
 fn word_front(begins: bool, bytes: &[u8]) -> Front
-    ensures value { found_of bytes.now result ≡ word_front begins (word_text bytes.now) (key_of (word_text bytes.now)) }
+    ensures value { found_of bytes.now result
+        ≡ word_front begins (word_text bytes.now) (key_of (word_text bytes.now)) }
     ensures within { IsWithin (length bytes.now) result }
 {
     let n = text_len(bytes);
@@ -70,7 +76,7 @@ fn word_front(begins: bool, bytes: &[u8]) -> Front
     }
 }
 
-/// The mark at the front.
+/// Returns the symbol or the error with which `bytes` begin.
 fn mark_front(bytes: &[u8]) -> Front
     ensures value { found_of bytes.now result ≡ mark_front (mark_of bytes.now) }
     ensures within { IsWithin (length bytes.now) result }
@@ -81,7 +87,7 @@ fn mark_front(bytes: &[u8]) -> Front
     }
 }
 
-/// The comment or the mark at the front, where `/` stands.
+/// Returns the comment, the symbol or the error with which `bytes` begin, whose first byte is `/`.
 fn slash_front(bytes: &[u8]) -> Front
     ensures value { found_of bytes.now result ≡ slash_front bytes.now }
     ensures within { IsWithin (length bytes.now) result }
@@ -95,7 +101,8 @@ fn slash_front(bytes: &[u8]) -> Front
     }
 }
 
-/// The token at the front, where this byte stands, which is no white space and begins no comment.
+/// Returns the token or the error with which `bytes` begin. Their first byte is `first`, which is
+/// not white space and begins no comment.
 fn token_front(first: u8, bytes: &[u8]) -> Front
     ensures value { found_of bytes.now result ≡ token_front first bytes.now }
     ensures within { IsWithin (length bytes.now) result }
@@ -109,7 +116,7 @@ fn token_front(first: u8, bytes: &[u8]) -> Front
     }
 }
 
-/// What stands at the front, by its first byte.
+/// Returns what `bytes` begin with, by their first byte.
 fn front_by_byte(bytes: &[u8]) -> Front
     ensures value { found_of bytes.now result ≡ front_of bytes.now }
     ensures within { IsWithin (length bytes.now) result }
@@ -128,7 +135,8 @@ fn front_by_byte(bytes: &[u8]) -> Front
     }
 }
 
-/// What stands at the front: the end, white space or a comment, the longest token, or a fault.
+/// Returns what `bytes` begin with: the end, white space or a comment, the longest token, or an
+/// error.
 pub(crate) fn front_of(bytes: &[u8]) -> Front
     ensures value { found_of bytes.now result ≡ front_of bytes.now }
     ensures inside { FitsIn (length bytes.now) result }

@@ -1,4 +1,4 @@
-//! The reserved words of HeyVL.
+//! The keywords of HeyVL.
 
 ghost use Rattle.heyvl_syntax.specs.internal.Fronts.{key_of, keys_from};
 ghost use Rattle.heyvl_syntax.specs.Keys.{key_text};
@@ -6,7 +6,7 @@ ghost use Rattle.std.specs.Cmp.Lexicographic.{pointwise};
 ghost use Rattle.std.specs.List.{find};
 ghost use Rattle.std.specs.Prelude.{◌≡◌, nat_eq};
 
-/// A reserved word, in the order of the language's list of keys.
+/// A keyword. The variants are in the order of the language's list of keywords.
 #[derive(Clone, Copy, Debug, PartialEq, Eq)]
 pub enum Key {
     Proc,
@@ -47,7 +47,7 @@ pub enum Key {
 }
 
 impl Key {
-    /// The bytes of the key.
+    /// Returns the bytes of the keyword.
     pub fn text(self) -> &'static [u8]
         ensures { result.now ≡ key_text self }
     {
@@ -91,7 +91,7 @@ impl Key {
     }
 }
 
-/// The keys that begin with this byte, in the language's order.
+/// Returns the keywords that begin with the byte `first`, in the order of the language.
 fn keys_from(first: u8) -> &'static [Key]
     ensures { result.now ≡ keys_from first }
 {
@@ -126,14 +126,14 @@ fn keys_from(first: u8) -> &'static [Key]
     }
 }
 
-/// The first of these keys that has this text, or None where none has it.
+/// Returns the first of `keys` whose text is `text`.
 fn key_among(keys: &[Key], text: &[u8]) -> Option<Key>
     ensures { result ≡ find (λ key. pointwise nat_eq text.now (key_text key)) keys.now }
 {
     keys.iter().copied().find(|key| text == key.text())
 }
 
-/// The key with this text, or None where there is none.
+/// Returns the keyword with the text `text`.
 pub(crate) fn key_of(text: &[u8]) -> Option<Key>
     ensures { result ≡ key_of text.now }
 {

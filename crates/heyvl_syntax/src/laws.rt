@@ -1,59 +1,64 @@
-//! Laws of the definitions of tokens and of the faults of a file.
+//! Laws of the definitions of tokens and of the errors of a file.
 
-ghost use Rattle.heyvl_syntax.specs.SourceFaults.{FilesHaveNoTokenFault, SourceFaultsAreUnique, SourceFaultsStandInside, SourcesHaveNoFault, TokenFaultsAreUnique};
-ghost use Rattle.heyvl_syntax.specs.TokenLaws.{FaultsAreUnique, TokensAreFew, TokensAreUnique, TokensExcludeFaults, TokensOrFault, TokensStandInOrder};
+ghost use Rattle.heyvl_syntax.specs.SourceFaults.{FilesHaveNoTokenFault, SourceFaultsAreUnique};
+ghost use Rattle.heyvl_syntax.specs.SourceFaults.{SourceFaultsStandInside, SourcesHaveNoFault};
+ghost use Rattle.heyvl_syntax.specs.SourceFaults.{TokenFaultsAreUnique};
+ghost use Rattle.heyvl_syntax.specs.TokenLaws.{FaultsAreUnique, TokensAreFew, TokensAreUnique};
+ghost use Rattle.heyvl_syntax.specs.TokenLaws.{TokensExcludeFaults, TokensOrFault};
+ghost use Rattle.heyvl_syntax.specs.TokenLaws.{TokensStandInOrder};
 
-/// Some bytes have at most one list of tokens.
+/// States that bytes have at most one list of tokens.
 pub fn tokens_are_unique()
     ensures { TokensAreUnique }
 {}
 
-/// Some bytes have at most one leftmost fault.
+/// States that bytes have at most one leftmost error.
 pub fn faults_are_unique()
     ensures { FaultsAreUnique }
 {}
 
-/// Bytes that have a list of tokens have no leftmost fault.
+/// States that bytes with a list of tokens have no leftmost error.
 pub fn tokens_exclude_faults()
     ensures { TokensExcludeFaults }
 {}
 
-/// All bytes have a list of tokens or a leftmost fault.
+/// States that all bytes have a list of tokens or a leftmost error.
 pub fn tokens_or_fault()
     ensures { TokensOrFault }
 {}
 
-/// The tokens of bytes stand one behind another, the bytes of each span spell its token, and literals are within the limits.
+/// States that the tokens of bytes do not overlap and are in order, that the bytes of each span
+/// spell its token, and that literals are within the limits.
 pub fn tokens_stand_in_order()
     ensures { TokensStandInOrder }
 {}
 
-/// Bytes have no more tokens than there are bytes.
+/// States that bytes have at most as many tokens as there are bytes.
 pub fn tokens_are_few()
     ensures { TokensAreFew }
 {}
 
-/// Some tokens have at most one first fault.
+/// States that tokens have at most one first error.
 pub fn token_faults_are_unique()
     ensures { TokenFaultsAreUnique }
 {}
 
-/// Tokens that spell a file within the limits have no first fault.
+/// States that tokens that spell a file within the limits have no first error.
 pub fn files_have_no_token_fault()
     ensures { FilesHaveNoTokenFault }
 {}
 
-/// Some bytes have at most one first fault.
+/// States that bytes have at most one first error.
 pub fn source_faults_are_unique()
     ensures { SourceFaultsAreUnique }
 {}
 
-/// Bytes that spell a file within the limits have no first fault.
+/// States that bytes that spell a file within the limits have no first error.
 pub fn sources_have_no_fault()
     ensures { SourcesHaveNoFault }
 {}
 
-/// A first fault of bytes stands at one of them, or at their end.
+/// States that the place of a first error begins at a byte of the file, or at its end.
 pub fn source_faults_stand_inside()
     ensures { SourceFaultsStandInside }
 {}

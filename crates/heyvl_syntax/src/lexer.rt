@@ -1,6 +1,7 @@
-//! The tokens of bytes.
+//! The lexer.
 
-ghost use Rattle.heyvl_syntax.specs.Tokens.{IsFaultOrMemory, IsMemory, IsLexStop, Lexes, Stops, span_of};
+ghost use Rattle.heyvl_syntax.specs.Tokens.{IsFaultOrMemory, IsMemory, IsLexStop, Lexes, Stops};
+ghost use Rattle.heyvl_syntax.specs.Tokens.{span_of};
 ghost use Rattle.heyvl_syntax.specs.internal.Fronts.{token_of};
 ghost use Rattle.heyvl_places.specs.declared.spans.Span.{Span};
 ghost use Rattle.heyvl_syntax.specs.declared.tokens.Token.{Token};
@@ -12,7 +13,7 @@ use crate::{LexStop, Token, TokenKind};
 use heyvl_places::{Name, Span};
 use std::alloc::Global;
 
-/// The n bytes from a place on.
+/// Returns the span of `n` bytes from the index `place` on.
 fn span_of(place: usize, n: usize) -> Span
     requires { place + n < 2 ^ 32 }
     ensures { result ≡ span_of place n }
@@ -23,7 +24,7 @@ fn span_of(place: usize, n: usize) -> Span
     }
 }
 
-/// The token of this kind that the n bytes from a place on are.
+/// Returns the token of kind `kind` with the span of `n` bytes from the index `place` on.
 fn token_of(kind: TokenKind, place: usize, n: usize) -> Token
     requires { place + n < 2 ^ 32 }
     ensures { result ≡ token_of kind place n }
@@ -34,7 +35,7 @@ fn token_of(kind: TokenKind, place: usize, n: usize) -> Token
     }
 }
 
-/// The tokens or the leftmost fault, part by part.
+/// Returns the tokens or the leftmost error, part by part.
 fn lex_parts(alloc: Global, bytes: &[u8]) -> Result<Vec<Token>, LexStop>
     requires { length bytes.now < 2 ^ 31 }
     ensures found { IfOk result (λ tokens. Lexes 0 bytes.now tokens.items) }
@@ -84,8 +85,13 @@ fn lex_parts(alloc: Global, bytes: &[u8]) -> Result<Vec<Token>, LexStop>
     }
 }
 
-/// The tokens that the bytes are split into: white space, comments and, between these, the longest token at each place.
-/// Fails with the leftmost fault where the bytes can't be split so, and otherwise for want of memory alone.
+/// Splits the bytes into white space, comments and, between them, the longest token at each place,
+/// and returns the tokens.
+///
+/// # Errors
+///
+/// - `LexStop::Fault`: the bytes cannot be split; it is the leftmost error.
+/// - `LexStop::Memory`: memory ran out.
 pub fn lex(alloc: Global, bytes: &[u8]) -> Result<Vec<Token>, LexStop>
     requires { length bytes.now < 2 ^ 31 }
     ensures found { IfOk result (λ tokens. Lexes 0 bytes.now tokens.items) }

@@ -1,4 +1,6 @@
-//! Literals, tokens, the lexer and the syntax trees of HeyVL.
+//! Tokens, the lexer and the syntax trees of HeyVL.
+//!
+//! `AllocError` means that memory ran out.
 #![tactic(auto)]
 
 mod bytes;

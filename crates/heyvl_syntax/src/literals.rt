@@ -2,26 +2,28 @@
 
 ghost use Rattle.heyvl_syntax.specs.Bytes.{is_point};
 ghost use Rattle.heyvl_syntax.specs.internal.Fronts.{below_limit, number_len};
-ghost use Rattle.heyvl_syntax.specs.Literals.{fraction, is_too_large, literal, whole, with_digit, without_last_zeros};
+ghost use Rattle.heyvl_syntax.specs.Literals.{fraction, is_too_large, literal, whole, with_digit};
+ghost use Rattle.heyvl_syntax.specs.Literals.{without_last_zeros};
 ghost use Rattle.std.specs.List.{position_or_len};
 ghost use Rattle.std.specs.Prelude.{◌+◌, ◌<◌, ◌^◌, ◌≡◌, ◌≤◌, cond, fold, length};
 
 use crate::bytes::digits_len;
 
-/// The number `digits / 10^places`, where `digits` isn't negative and has no trailing zeros after the point.
+/// The number `digits / 10^places`. `digits` is at least 0 and below 2^127, and `places` is at most
+/// 38. If `places` is positive, `digits` does not end in 0.
 #[derive(Clone, Copy, Debug, PartialEq, Eq)]
 pub struct Lit {
     pub digits: i128,
     pub places: u8,
 }
 
-/// The most digits that may stand behind the point.
+/// The largest number of digits after the point.
 const MAX_PLACES: usize = 38;
 
-/// The least number that no literal's digits make.
+/// The least integer above those that the digits of a literal may denote.
 const LIMIT: u128 = 1 << 127;
 
-/// How many bytes the number at the front has.
+/// Returns the length of the number with which `bytes` begin.
 pub(crate) fn number_len(bytes: &[u8]) -> usize
     ensures value { result ≡ number_len bytes.now }
     ensures within { result ≤ length bytes.now }
@@ -36,7 +38,7 @@ pub(crate) fn number_len(bytes: &[u8]) -> usize
     }
 }
 
-/// How many bytes stand before the first point, or at all where there is none.
+/// Returns the number of bytes before the first point, or of all bytes if there is none.
 fn point_place(text: &[u8]) -> usize
     ensures value { result ≡ position_or_len is_point text.now }
     ensures within { result ≤ length text.now }
@@ -44,7 +46,7 @@ fn point_place(text: &[u8]) -> usize
     text.iter().take_while(|byte| **byte != b'.').count()
 }
 
-/// The digits before the point, or all where there is none, and those behind it.
+/// Returns the digits before the point, or all digits if there is none, and the digits after it.
 fn split_number(text: &[u8]) -> (&[u8], &[u8])
     ensures whole { result.0.now ≡ whole text.now }
     ensures fraction { result.1.now ≡ fraction text.now }
@@ -57,7 +59,7 @@ fn split_number(text: &[u8]) -> (&[u8], &[u8])
     }
 }
 
-/// The digits without the zeros at their end.
+/// Returns the digits without trailing zeros.
 fn without_last_zeros(digits: &[u8]) -> &[u8]
     ensures value { result.now ≡ without_last_zeros digits.now }
     ensures shorter { length result.now ≤ length digits.now }
@@ -72,7 +74,7 @@ fn without_last_zeros(digits: &[u8]) -> &[u8]
     kept
 }
 
-/// The number with one more digit, or None where it is 2^127 or more.
+/// Returns the number with one more digit, or `None` if it is 2^127 or more.
 fn with_digit(number: u128, digit: u8) -> Option<u128>
     ensures { result ≡ below_limit (with_digit number digit) }
 {
@@ -82,7 +84,8 @@ fn with_digit(number: u128, digit: u8) -> Option<u128>
     if more < LIMIT { Some(more) } else { None }
 }
 
-/// The number that these digits write behind those of `start`, or None where it is 2^127 or more.
+/// Returns the number whose digits are those of `start` and then `digits`, or `None` if it is 2^127
+/// or more.
 fn number_from(start: u128, digits: &[u8]) -> Option<u128>
     requires { start < 2 ^ 127 }
     ensures { result ≡ below_limit (fold with_digit start digits.now) }
@@ -94,8 +97,8 @@ fn number_from(start: u128, digits: &[u8]) -> Option<u128>
     Some(number)
 }
 
-/// The literal of a number's text, or None where the digits as they are written make 2^127 or more or more than 38 of
-/// them stand behind the point.
+/// Returns the literal of a number's text, or `None` if it exceeds the limits: all its digits,
+/// without the point, make a number of at least 2^127, or more than 38 digits follow the point.
 pub(crate) fn literal(text: &[u8]) -> Option<Lit>
     ensures { result ≡ cond (is_too_large text.now) None (Some (literal text.now)) }
 {

@@ -1,11 +1,11 @@
-//! The marks of HeyVL.
+//! The symbols of HeyVL.
 
 ghost use Rattle.heyvl_syntax.specs.internal.Fronts.{mark_of};
 ghost use Rattle.heyvl_syntax.specs.Marks.{mark_text};
 ghost use Rattle.std.specs.List.{starts_with};
 ghost use Rattle.std.specs.Prelude.{Some, cond, nat_eq, ◌∷◌, ◌≡◌};
 
-/// A mark, in the order of the language's list of marks.
+/// A symbol. The variants are in the order of the language's list of symbols.
 #[derive(Clone, Copy, Debug, PartialEq, Eq)]
 pub enum Mark {
     ParenLeft,
@@ -41,7 +41,7 @@ pub enum Mark {
 }
 
 impl Mark {
-    /// The bytes of the mark.
+    /// Returns the bytes of the symbol.
     pub fn text(self) -> &'static [u8]
         ensures { result.now ≡ mark_text self }
     {
@@ -80,7 +80,7 @@ impl Mark {
     }
 }
 
-/// This mark where its rest stands at the front, or else the shorter one.
+/// Returns `mark` if `bytes` begin with `rest`, otherwise `shorter`.
 fn longer(bytes: &[u8], rest: &[u8], mark: Mark, shorter: Option<Mark>) -> Option<Mark>
     ensures { result ≡ cond (starts_with nat_eq bytes.now rest.now) (Some mark) shorter }
 {
@@ -91,7 +91,7 @@ fn longer(bytes: &[u8], rest: &[u8], mark: Mark, shorter: Option<Mark>) -> Optio
     }
 }
 
-/// The longest mark of this byte and those behind it, or None where there is none.
+/// Returns the longest symbol with which the byte `first`, followed by `behind`, begins.
 fn mark_from(first: u8, behind: &[u8]) -> Option<Mark>
     ensures { result ≡ mark_of (first ∷ behind.now) }
 {
@@ -129,7 +129,7 @@ fn mark_from(first: u8, behind: &[u8]) -> Option<Mark>
     }
 }
 
-/// The longest mark at the front, or None where there is none.
+/// Returns the longest symbol with which `bytes` begin.
 pub(crate) fn mark_of(bytes: &[u8]) -> Option<Mark>
     ensures { result ≡ mark_of bytes.now }
 {

@@ -1,6 +1,6 @@
 //! The operators of expressions.
 
-/// An operator before its operand.
+/// A prefix operator.
 #[derive(Clone, Copy, Debug, PartialEq, Eq)]
 pub enum UnaryOp {
     /// `!`
@@ -11,7 +11,7 @@ pub enum UnaryOp {
     Tilde,
 }
 
-/// An operator between its operands. Those that bind loosest come first.
+/// A binary operator. The variants that bind loosest come first.
 #[derive(Clone, Copy, Debug, PartialEq, Eq)]
 pub enum BinaryOp {
     /// `==>`

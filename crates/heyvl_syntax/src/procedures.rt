@@ -7,18 +7,18 @@ use crate::{Expr, Stmt, TypeName};
 use heyvl_places::{Name, Span};
 use std::alloc::{AllocError, Global};
 
-/// Which expectation a procedure is about.
+/// A note on a procedure: the expectation that it is about.
 #[derive(Clone, Copy, Debug, PartialEq, Eq)]
 pub enum Note {
-    /// `@wlp`: the weakest liberal preexpectation.
+    /// `@wlp`: the weakest liberal pre-expectation.
     Wlp,
-    /// `@wp`: the weakest preexpectation.
+    /// `@wp`: the weakest pre-expectation.
     Wp,
-    /// `@ert`: the expected runtime.
+    /// `@ert`: the expected running time.
     Ert,
 }
 
-/// An input or an output.
+/// An input or an output of a procedure.
 pub struct Param {
     pub name: Name,
     pub ty: TypeName,
@@ -35,7 +35,8 @@ impl Drop for Param {
     }
 }
 
-/// A procedure: a coproc where `co` is true, else a proc. Its place begins at its note, where it has one.
+/// A procedure: a coproc if `co` is true, otherwise a proc. Its place begins at its note, if it has
+/// one.
 pub struct Proc {
     pub co: bool,
     pub note: Option<Note>,
@@ -76,7 +77,7 @@ impl Drop for File {
 }
 
 impl Param {
-    /// A parameter of its own that is equal to this one.
+    /// Returns a copy of the parameter.
     pub fn copy(&self, alloc: Global) -> Result<Param, AllocError>
         ensures { IfOk result (λ copied. copied ≡ self.now) }
     {
@@ -87,7 +88,7 @@ impl Param {
         })
     }
 
-    /// Copies of these parameters, in their order.
+    /// Returns copies of the parameters, in their order.
     pub fn copy_all(alloc: Global, all: &[Param]) -> Result<Vec<Param>, AllocError>
         ensures { IfOk result (λ copied. copied.items ≡ all.now) }
     {
@@ -99,7 +100,7 @@ impl Param {
     }
 }
 
-/// A copy of the body, where there is one.
+/// Returns a copy of the body, if there is one.
 fn copy_body(alloc: Global, body: &Option<Vec<Stmt>>) -> Result<Option<Vec<Stmt>>, AllocError>
     ensures { IfOk result (λ copied. optional_block copied ≡ optional_block body.now) }
 {
@@ -110,7 +111,7 @@ fn copy_body(alloc: Global, body: &Option<Vec<Stmt>>) -> Result<Option<Vec<Stmt>
 }
 
 impl Proc {
-    /// A procedure of its own that is equal to this one.
+    /// Returns a copy of the procedure.
     pub fn copy(&self, alloc: Global) -> Result<Proc, AllocError>
         ensures { IfOk result (λ copied. procedure copied ≡ procedure self.now) }
     {
@@ -127,7 +128,7 @@ impl Proc {
         })
     }
 
-    /// Copies of these procedures, in their order.
+    /// Returns copies of the procedures, in their order.
     pub fn copy_all(alloc: Global, all: &[Proc]) -> Result<Vec<Proc>, AllocError>
         ensures { IfOk result (λ copied. map procedure copied.items ≡ map procedure all.now) }
     {
@@ -140,7 +141,7 @@ impl Proc {
 }
 
 impl File {
-    /// A file of its own that is equal to this one.
+    /// Returns a copy of the file.
     pub fn copy(&self, alloc: Global) -> Result<File, AllocError>
         ensures { IfOk result (λ copied. procedures copied ≡ procedures self.now) }
     {

@@ -1,6 +1,7 @@
 //! Statements.
 
-ghost use Rattle.heyvl_syntax.specs.Statements.{arms, block, choices, guarded, loop_rule, loop_rules, optional_right, right_side, statement};
+ghost use Rattle.heyvl_syntax.specs.Statements.{arms, block, choices, guarded, loop_rule};
+ghost use Rattle.heyvl_syntax.specs.Statements.{loop_rules, optional_right, right_side, statement};
 ghost use Rattle.std.specs.Prelude.{◌≡◌, IfOk};
 
 use crate::copies::beside;
@@ -8,7 +9,7 @@ use crate::{Expr, TypeName};
 use heyvl_places::{CheckKind, Name, Span};
 use std::alloc::{AllocError, Global};
 
-/// What stands before a loop.
+/// An annotation of a loop.
 pub enum Rule {
     /// `@invariant(i)`
     Invariant(Expr, Span),
@@ -28,17 +29,17 @@ impl Drop for Rule {
     }
 }
 
-/// What a variable is given.
+/// The right side of an assignment or a declaration.
 pub enum Right {
     /// The value of an expression.
     Plain(Expr),
-    /// `flip(p)`: true with probability p.
+    /// `flip(p)`: true with probability `p`, otherwise false.
     Flip(Expr),
-    /// `unif(a, b)`: each integer from a to b with the same probability.
+    /// `unif(a, b)`: each integer from `a` to `b` with the same probability.
     Unif(Expr, Expr),
-    /// `choose { p: a, .. }`: the value of a with probability p.
+    /// `choose { p: a, .. }`: the value of `a` with probability `p`.
     Choose(Vec<(Expr, Expr)>),
-    /// A call of a procedure with these arguments.
+    /// A call of a procedure with its arguments.
     Call(Name, Vec<Expr>),
 }
 
@@ -54,7 +55,8 @@ impl Drop for Right {
     }
 }
 
-/// A guard and what runs where it is the first that holds.
+/// An arm of an `if`: its guard, and the statements that run if the guard is the first one that
+/// holds.
 #[cycle(statements)]
 #[derive(Drop)]
 pub struct Arm {
@@ -62,26 +64,27 @@ pub struct Arm {
     pub body: Vec<Stmt>,
 }
 
-/// A statement. Its place goes from its first byte, for a loop that of its first rule, to the end of its last token.
+/// A statement. Its place extends from its first byte to the end of its last token. A loop begins
+/// at its first annotation.
 #[cycle(statements)]
 pub enum Stmt {
-    /// `var x: T`, with what the variable is given where that is there.
+    /// `var x: T` or `var x: T = r`.
     Var(Name, TypeName, Option<Right>, Span),
-    /// `x, .. = r`, or a call alone, which has no targets.
+    /// `x, .. = r`, or a call without targets.
     Assign(Vec<Name>, Right, Span),
     /// `assert a`, `assume a`, `coassert a` or `coassume a`.
     Check(CheckKind, Expr, Span),
-    /// `covalidate` where the flag is true, else `validate`.
+    /// `covalidate` if the flag is true, otherwise `validate`.
     Validate(bool, Span),
-    /// `cohavoc x, ..` where the flag is true, else `havoc x, ..`.
+    /// `cohavoc x, ..` if the flag is true, otherwise `havoc x, ..`.
     Havoc(bool, Vec<Name>, Span),
     /// `reward a` or `tick a`.
     Reward(Expr, Span),
-    /// `if a { .. } else if b { .. } else { .. }`. An else that isn't there is the empty block.
+    /// `if a { .. } else if b { .. } else { .. }`. A missing `else` is the empty block.
     If(Vec<Arm>, Vec<Stmt>, Span),
-    /// `if \cup { .. } else { .. }` where the flag is true, else `if \cap { .. } else { .. }`.
+    /// `if \cup { .. } else { .. }` if the flag is true, otherwise `if \cap { .. } else { .. }`.
     Pick(bool, Vec<Stmt>, Vec<Stmt>, Span),
-    /// The rules of a loop, its guard and its body.
+    /// A loop: its annotations, its guard and its body.
     While(Vec<Rule>, Expr, Vec<Stmt>, Span),
 }
 
@@ -103,7 +106,7 @@ impl Drop for Stmt {
 }
 
 impl Rule {
-    /// A rule of its own that is equal to this one.
+    /// Returns a copy of the annotation.
     pub fn copy(&self, alloc: Global) -> Result<Rule, AllocError>
         ensures { IfOk result (λ copied. loop_rule copied ≡ loop_rule self.now) }
     {
@@ -121,7 +124,7 @@ impl Rule {
     }
 }
 
-/// Copies of the rules, in their order.
+/// Returns copies of the annotations, in their order.
 fn copy_rules(alloc: Global, rules: &[Rule]) -> Result<Vec<Rule>, AllocError>
     ensures { IfOk result (λ copied. loop_rules copied.items ≡ loop_rules rules.now) }
 {
@@ -133,7 +136,7 @@ fn copy_rules(alloc: Global, rules: &[Rule]) -> Result<Vec<Rule>, AllocError>
 }
 
 impl Right {
-    /// A right side of its own that is equal to this one.
+    /// Returns a copy of the right side.
     pub fn copy(&self, alloc: Global) -> Result<Right, AllocError>
         ensures { IfOk result (λ copied. right_side copied ≡ right_side self.now) }
     {
@@ -153,7 +156,7 @@ impl Right {
     }
 }
 
-/// Copies of the parts of a choose, in their order.
+/// Returns copies of the alternatives of a `choose`, in their order.
 fn copy_parts(alloc: Global, parts: &[(Expr, Expr)]) -> Result<Vec<(Expr, Expr)>, AllocError>
     ensures { IfOk result (λ copied. choices copied.items ≡ choices parts.now) }
 {
@@ -165,7 +168,7 @@ fn copy_parts(alloc: Global, parts: &[(Expr, Expr)]) -> Result<Vec<(Expr, Expr)>
 }
 
 impl Arm {
-    /// An arm of its own that is equal to this one.
+    /// Returns a copy of the arm.
     #[cycle(copying)]
     pub fn copy(&self, alloc: Global) -> Result<Arm, AllocError>
         ensures { IfOk result (λ copied. guarded copied ≡ guarded self.now) }
@@ -177,7 +180,7 @@ impl Arm {
         })
     }
 
-    /// Copies of these arms, in their order.
+    /// Returns copies of the arms, in their order.
     #[cycle(copying)]
     pub fn copy_all(alloc: Global, all: &[Arm]) -> Result<Vec<Arm>, AllocError>
         ensures { IfOk result (λ copied. arms copied.items ≡ arms all.now) }
@@ -191,7 +194,7 @@ impl Arm {
 }
 
 impl Stmt {
-    /// A statement of its own that is equal to this one.
+    /// Returns a copy of the statement.
     #[cycle(copying)]
     pub fn copy(&self, alloc: Global) -> Result<Stmt, AllocError>
         ensures { IfOk result (λ copied. statement copied ≡ statement self.now) }
@@ -229,7 +232,7 @@ impl Stmt {
         }
     }
 
-    /// Copies of these statements, in their order.
+    /// Returns copies of the statements, in their order.
     #[cycle(copying)]
     pub fn copy_all(alloc: Global, all: &[Stmt]) -> Result<Vec<Stmt>, AllocError>
         ensures { IfOk result (λ copied. block copied.items ≡ block all.now) }
@@ -242,7 +245,7 @@ impl Stmt {
     }
 }
 
-/// A copy of what a variable is given, where that is there.
+/// Returns a copy of the right side of a declaration, if there is one.
 fn copy_given(alloc: Global, given: &Option<Right>) -> Result<Option<Right>, AllocError>
     ensures { IfOk result (λ copied. optional_right copied ≡ optional_right given.now) }
 {

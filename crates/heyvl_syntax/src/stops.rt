@@ -7,11 +7,11 @@ use heyvl_places::Span;
 use std::alloc::{AllocError, AllocFailed};
 use thiserror::Error;
 
-/// Why bytes give no list of tokens.
+/// The reason why bytes have no list of tokens.
 #[derive(Debug, Drop, Error)]
 pub enum LexStop {
-    /// The leftmost fault, with its number and the bytes that it is about: 1 for a byte at which no token, white space
-    /// or comment begins, 2 for a `/*` that no `*/` closes, 3 for a number too large for a literal.
+    /// The leftmost error, with its number and its bytes: 1, a byte at which no token, white space
+    /// or comment begins; 2, a `/*` without `*/`; 3, a number that exceeds the limits of literals.
     #[error("fault {0} at the bytes {1}")]
     Fault(u8, Span),
     /// Memory ran out.

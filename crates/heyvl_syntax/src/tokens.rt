@@ -3,7 +3,7 @@
 use crate::{Key, Lit, Mark};
 use heyvl_places::{Name, Span};
 
-/// What a token is.
+/// The kind of a token: an identifier, a number, a keyword or a symbol.
 #[derive(Drop)]
 pub enum TokenKind {
     Word(Name),
