@@ -1,4 +1,4 @@
--- Expressions as plain trees, and the plain tree that an expression of the program holds.
+-- Expressions as plain trees, and the plain tree of an expression of the code.
 use Rattle.heyvl_places.specs.declared.spans.Span.{Span}
 use Rattle.heyvl_syntax.specs.declared.expressions.Expr.TheFolds.{fold-Expr}
 use Rattle.heyvl_syntax.specs.declared.expressions.Expr.TheOpen.{Expr-F as Layer}
@@ -9,7 +9,8 @@ use Rattle.heyvl_syntax.specs.declared.operators.UnaryOp.{UnaryOp}
 use Rattle.heyvl_syntax.specs.declared.types.TypeName.{TypeName}
 use Rattle.std.specs.Prelude.{Bool, List, map, ℕ}
 
--- An expression. Each node has its place in the bytes. The flag of `bound` is true for `sup`.
+-- An expression. Each node has its place in the bytes. The flag of `bound` is true for `sup`, and
+-- false for `inf`.
 pub data Expression : Type 0 where
   number : Lit → Span → Expression
   truth : Bool → Span → Expression
@@ -23,7 +24,7 @@ pub data Expression : Type 0 where
   choice : Expression → Expression → Expression → Span → Expression
   bound : Bool → List ℕ → TypeName → Expression → Span → Expression
 
--- The plain tree of a node whose parts are plain trees already.
+-- The plain tree of a node whose subtrees are plain trees already.
 abbrev pub expression_layer : Layer Expression → Expression
 expression_layer (Layer.Number n s) = Expression.number n s
 expression_layer (Layer.Truth b s) = Expression.truth b s

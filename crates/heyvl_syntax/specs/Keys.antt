@@ -1,9 +1,9 @@
--- The reserved words of HeyVL.
+-- The keywords of HeyVL.
 use Rattle.heyvl_syntax.specs.declared.keys.Key.TheVariants as keys
 use Rattle.heyvl_syntax.specs.declared.keys.Key.{Key}
 use Rattle.std.specs.Prelude.{List, codes, ℕ}
 
--- The bytes of each key.
+-- The bytes of each keyword.
 abbrev pub key_text : Key → List ℕ
 key_text keys.Proc = codes "proc"
 key_text keys.CoProc = codes "coproc"

@@ -1,5 +1,9 @@
--- The load of a text: how deeply its brackets and operators may nest its tree. It is read off the tokens alone. This measure is
--- this project's own.
+-- The *load* of a text: a measure of how deeply its brackets and operators are nested, computed
+-- from the tokens. This project's own.
+--
+-- The load is computed from a list of counts, one for each open bracket and one for the text
+-- outside of all brackets, the innermost first. After the tokens of `x + (y * (` the counts are 0,
+-- 1 and 1, and the load is 2 + 2 = 4.
 use Rattle.heyvl_syntax.specs.declared.keys.Key.TheVariants as keys
 use Rattle.heyvl_syntax.specs.declared.keys.Key.{Key}
 use Rattle.heyvl_syntax.specs.declared.marks.Mark.TheVariants as marks
@@ -10,8 +14,7 @@ use Rattle.heyvl_syntax.specs.declared.tokens.TokenKind.{TokenKind}
 use Rattle.std.specs.List.{position_or_len, sum}
 use Rattle.std.specs.Prelude.{List, [], length, nat_lt, ◌+◌, ◌-◌, ◌∷◌, ℕ}
 
--- What a token does to the list of counts, which has one count for each open bracket and one for the text outside of them. The
--- innermost stands first.
+-- The effect of a token on the list of counts.
 pub data Effect : Type 0 where
   opens : Effect  -- one more count, of 0
   closes : Effect  -- without the innermost count, if there is more than one
@@ -19,7 +22,8 @@ pub data Effect : Type 0 where
   resets : Effect  -- 0 as the innermost count
   keeps : Effect  -- the same counts
 
--- What each mark does to the counts: brackets open and close, operators add, `,` `;` `=` and `@` reset, and the others keep.
+-- The effect of each symbol: brackets open and close, operators add, `,` `;` `=` and `@` reset, and
+-- the others keep the counts.
 abbrev pub mark_effect : Mark → Effect
 mark_effect marks.ParenLeft = opens
 mark_effect marks.ParenRight = closes
@@ -52,8 +56,8 @@ mark_effect marks.Arrow = keeps
 mark_effect marks.Question = keeps
 mark_effect marks.AtSign = resets
 
--- What each key does to the counts: those that begin a procedure, a clause, a statement or an else reset,
--- `sup`, `inf`, `\cap` and `\cup` add, and the others keep.
+-- The effect of each keyword: the ones that begin a procedure, a clause, a statement or an `else`
+-- reset, `sup`, `inf`, `\cap` and `\cup` add, and the others keep the counts.
 abbrev pub key_effect : Key → Effect
 key_effect keys.Proc = resets
 key_effect keys.CoProc = resets
@@ -91,14 +95,14 @@ key_effect keys.Cap = adds
 key_effect keys.Cup = adds
 key_effect keys.Infty = keeps
 
--- What a token does to the counts. A word and a number keep them.
+-- The effect of a token. Identifiers and numbers keep the counts.
 abbrev pub effect : TokenKind → Effect
 effect (kinds.Word name) = keeps
 effect (kinds.Number lit) = keeps
 effect (kinds.Key key) = key_effect key
 effect (kinds.Mark mark) = mark_effect mark
 
--- The counts after a token with this effect.
+-- The counts after a token with the given effect.
 abbrev pub changed : List ℕ → Effect → List ℕ
 changed counts opens = 0 ∷ counts
 changed (c ∷ d ∷ counts) closes = d ∷ counts
@@ -110,19 +114,21 @@ changed (c ∷ counts) resets = 0 ∷ counts
 changed [] resets = []
 changed counts keeps = counts
 
--- The counts after this token.
+-- `counts_after counts t`: the counts after the token `t`.
 abbrev pub counts_after : List ℕ → Token → List ℕ
 counts_after counts t = changed counts (effect t.kind)
 
--- The sum of all counts and of the number of open brackets.
+-- The load of a list of counts: their sum, plus the number of open brackets.
 abbrev pub load : List ℕ → ℕ
 load counts = sum counts + (length counts - 1)
 
--- The load after each of the tokens, which come after these counts.
+-- `loads counts ts`: the load after each of the tokens `ts`, where `counts` are the counts before
+-- them.
 abbrev pub loads : List ℕ → List Token → List ℕ
 loads counts [] = []
 loads counts (t ∷ ts) = load (counts_after counts t) ∷ loads (counts_after counts t) ts
 
--- The index of the first token after which the load is above 200, or the number of tokens where there is none.
+-- The index of the first token after which the load exceeds 200, or the number of tokens if there
+-- is none.
 abbrev pub overload : List Token → ℕ
 overload tokens = position_or_len (nat_lt 200) (loads (0 ∷ []) tokens)

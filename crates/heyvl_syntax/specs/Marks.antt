@@ -1,9 +1,9 @@
--- The marks of HeyVL.
+-- The symbols of HeyVL.
 use Rattle.heyvl_syntax.specs.declared.marks.Mark.TheVariants as marks
 use Rattle.heyvl_syntax.specs.declared.marks.Mark.{Mark}
 use Rattle.std.specs.Prelude.{List, codes, ℕ}
 
--- The bytes of each mark.
+-- The bytes of each symbol.
 abbrev pub mark_text : Mark → List ℕ
 mark_text marks.ParenLeft = codes "("
 mark_text marks.ParenRight = codes ")"

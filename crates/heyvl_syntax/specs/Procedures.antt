@@ -1,4 +1,4 @@
--- Procedures and files as plain trees, and the plain trees that those of the program hold.
+-- Procedures and files as plain trees, and the plain tree of a file of the code.
 use Rattle.heyvl_places.specs.declared.spans.Span.{Span}
 use Rattle.heyvl_syntax.specs.Expressions.{Expression, expressions}
 use Rattle.heyvl_syntax.specs.Statements.{Block, block}
@@ -10,7 +10,7 @@ use Rattle.heyvl_syntax.specs.declared.statements.Stmt.{Stmt}
 use Rattle.std.specs.Prelude.{Bool, List, None, Option, Some, Vec, map, ℕ}
 use Rattle.std.specs.declared.alloc.Global.{Global}
 
--- A procedure: a coproc where `co` is true, else a proc.
+-- A procedure: a coproc if `co` is true, otherwise a proc.
 pub record Procedure : Type 0 where
   pub co : Bool
   pub note : Option Note
@@ -22,7 +22,7 @@ pub record Procedure : Type 0 where
   pub body : Option Block
   pub span : Span
 
--- The plain tree of a body, where there is one.
+-- The plain tree of a body, if there is one.
 abbrev pub optional_block : Option (Vec Stmt Global) → Option Block
 optional_block None = None
 optional_block (Some b) = Some (block b.items)
@@ -41,6 +41,6 @@ procedure p = record {
   span = p.span;
 }
 
--- The plain trees of a file.
+-- The plain trees of the procedures of a file.
 abbrev pub procedures : File → List Procedure
 procedures file = map procedure file.procs.items

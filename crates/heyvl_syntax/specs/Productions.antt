@@ -1,4 +1,4 @@
--- How productions are put together from tokens, and which bytes a list of tokens covers.
+-- How productions are composed from tokens, and which bytes a list of tokens covers.
 use Rattle.heyvl_places.specs.declared.spans.Span.{Span}
 use Rattle.heyvl_syntax.specs.declared.keys.Key.{Key}
 use Rattle.heyvl_syntax.specs.declared.literals.Lit.{Lit}
@@ -11,54 +11,54 @@ use Rattle.std.specs.Prelude.{List, None, Option, Some, [], ◌++◌, ◌∷◌,
 
 infixr 30 ◌then◌
 infixr 20 ◌or◌
--- The first byte of the first token.
+-- The index of the first byte of the first token.
 abbrev pub first_byte : List Token → ℕ
 first_byte [] = 0
 first_byte (t ∷ ts) = t.span.from
 
--- The end of the last token.
+-- The index after the last byte of the last token.
 abbrev pub last_end : List Token → ℕ
 last_end [] = 0
 last_end (t ∷ []) = t.span.to
 last_end (t ∷ u ∷ ts) = last_end (u ∷ ts)
 
--- From the first byte of the first token to the end of the last one.
+-- The span from the first byte of the first token to the end of the last one.
 abbrev pub extent : List Token → Span
 extent ts = record { from = first_byte ts; to = last_end ts }
 
--- The token of this kind at this place.
+-- The token of kind `kind` at the place `span`.
 abbrev pub at : TokenKind → Span → Token
 at kind span = record { kind = kind; span = span }
 
--- The token of this kind at this place, alone.
+-- The tokens are exactly one: that of kind `kind` at the place `span`.
 abbrev pub IsAt : TokenKind → Span → List Token → Type 0
 IsAt kind span ts = ts ≡ at kind span ∷ []
 
--- A token of this kind, alone.
+-- The tokens are exactly one, of kind `kind`.
 abbrev pub IsOne : TokenKind → List Token → Type 0
 IsOne kind ts = (span : Span) × IsAt kind span ts
 
--- A token of this key, alone.
+-- The tokens are exactly the keyword `key`.
 abbrev pub IsKey : Key → List Token → Type 0
 IsKey key = IsOne (kinds.Key key)
 
--- A token of this mark, alone.
+-- The tokens are exactly the symbol `mark`.
 abbrev pub IsMark : Mark → List Token → Type 0
 IsMark mark = IsOne (kinds.Mark mark)
 
--- W, where the word is this name.
+-- W: the tokens are exactly the identifier `name`.
 abbrev pub IsName : List ℕ → List Token → Type 0
 IsName name = IsOne (kinds.Word name)
 
--- N, where the number is this literal.
+-- N: the tokens are exactly the number `lit`.
 abbrev pub IsLiteral : Lit → List Token → Type 0
 IsLiteral lit = IsOne (kinds.Number lit)
 
--- No token at all.
+-- There is no token.
 abbrev pub IsNothing : List Token → Type 0
 IsNothing ts = ts ≡ []
 
--- x y: first the one and then the other.
+-- x y: some tokens of `P`, followed by tokens of `Q`.
 abbrev pub ◌then◌ : (List Token → Type 0) → (List Token → Type 0) → List Token → Type 0
 ◌then◌ P Q ts = (front back : List Token) × P front × Q back × (ts ≡ front ++ back)
 
@@ -66,27 +66,27 @@ abbrev pub ◌then◌ : (List Token → Type 0) → (List Token → Type 0) → 
 abbrev pub ◌or◌ : (List Token → Type 0) → (List Token → Type 0) → List Token → Type 0
 ◌or◌ P Q ts = P ts ⊎ Q ts
 
--- x?, for an item that may be there.
+-- x?: nothing for `None`, and `P x` for `Some x`.
 abbrev pub IsOptional : {A : Type 0} → (A → List Token → Type 0) → Option A → List Token → Type 0
 IsOptional P None = IsNothing
 IsOptional P (Some x) = P x
 
--- x*, one for each item.
+-- x*: the items of the list, one after another.
 abbrev pub IsEach : {A : Type 0} → (A → List Token → Type 0) → List A → List Token → Type 0
 IsEach P [] = IsNothing
 IsEach P (x ∷ xs) = P x then IsEach P xs
 
--- (',' x)*, one for each item.
+-- (',' x)*: the items of the list, each after a comma.
 abbrev pub IsMore : {A : Type 0} → (A → List Token → Type 0) → List A → List Token → Type 0
 IsMore P [] = IsNothing
 IsMore P (x ∷ xs) = IsMark marks.Comma then P x then IsMore P xs
 
--- list(x): one or more, with ',' between.
+-- list(x): the items of the list, at least one, with ',' between.
 abbrev pub IsList : {A : Type 0} → (A → List Token → Type 0) → List A → List Token → Type 0
 IsList P [] ts = ⊥
 IsList P (x ∷ xs) ts = (P x then IsMore P xs) ts
 
--- list0(x): none, or list(x).
+-- list0(x): nothing, or list(x).
 abbrev pub IsList0 : {A : Type 0} → (A → List Token → Type 0) → List A → List Token → Type 0
 IsList0 P [] = IsNothing
 IsList0 P (x ∷ xs) = IsList P (x ∷ xs)

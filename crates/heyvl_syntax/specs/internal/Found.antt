@@ -1,4 +1,5 @@
--- What stands at the front of bytes, with the token where one stands there.
+-- What bytes begin with: nothing more, white space or a comment with its length, a token with its
+-- length, or an error with its number and its length.
 use Rattle.heyvl_syntax.specs.declared.tokens.TokenKind.{TokenKind}
 use Rattle.std.specs.Prelude.{ℕ}
 
