@@ -1,11 +1,12 @@
--- What begins a thing, begins it when it is cut off earlier; so the index at which nothing goes on is one.
+-- A shorter list of tokens than one that begins a text begins it too; so at most one index is that
+-- of an unexpected token.
 use Rattle.heyvl_syntax.specs.Beginnings.{IsBeginning, IsUnexpected}
 use Rattle.heyvl_syntax.specs.declared.tokens.Token.{Token}
 use Rattle.std.proofs.Common.{List, ap, arith, drop, inl, inr, length, subst, sym, take, ◌++◌, ◌+◌, ◌<◌, ◌∙◌, ◌≡◌, ◌≤◌, ◌⊎◌, ℕ}
 use Rattle.std.proofs.lemmas.Bool.{cases_order}
 use Rattle.std.proofs.lemmas.List.{append_assoc, take-append-drop, take-take}
 
--- No two numbers have a property of which a smaller one excludes the greater ones.
+-- Two numbers with a property are equal if no two different numbers have it.
 pub same_place : (P : ℕ → Type 0) (i j : ℕ) → P i → P j → ((m n : ℕ) → P m → P n → m < n → ⊥) → i ≡ j
 same_place P i j s t order = pick (cases_order i j)
   where

@@ -16,7 +16,7 @@ never_closes n (b ∷ bs) h k = pick (closes_at (b ∷ bs) 0) refl h (never_clos
     pick false e h later zero = e
     pick false e h later (suc k) = later h k
 
--- The place that is found is the first.
+-- The `*/` at `inner` is the first one.
 pub record IsFirstClose (bytes : List ℕ) (inner : ℕ) : Type 0 where
   pub closes : closes_at bytes inner ≡ true
   pub first : (k : ℕ) → k < inner → closes_at bytes k ≡ false

@@ -1,4 +1,4 @@
--- Numbers that digits write, and the limit of literals.
+-- Numbers as decimal digits, and the limit of literals.
 use Rattle.heyvl_syntax.specs.internal.Fronts.{below_limit}
 use Rattle.heyvl_syntax.specs.Literals.{fraction, is_too_large, whole, with_digit, without_last_zeros}
 use Rattle.std.proofs.Common.{Bool, List, None, Some, [], ap, arith, cond, drop, false, fold, get_or, length, nat_eq, nat_le, nat_lt, refl, true, ◌&&◌, ◌++◌, ◌+◌, ◌<◌, ◌^◌, ◌∷◌, ◌≡◌, ◌≤◌, ℕ}
@@ -7,7 +7,7 @@ use Rattle.std.proofs.lemmas.List.Sums.{fold-append}
 use Rattle.std.proofs.lemmas.List.{at_drop_more}
 use Rattle.std.specs.List.{list_all}
 
--- More digits make no smaller number.
+-- More digits never make a smaller number.
 pub grows : (n : ℕ) (digits : List ℕ) → n ≤ fold with_digit n digits
 grows n [] = omega arith
 grows n (d ∷ ds) = omega (arith, grows (with_digit n d) ds)
@@ -30,7 +30,7 @@ over_limit n h = pick (nat_lt n (2 ^ 127)) refl h
 pub none_over_limit : (n : ℕ) → 2 ^ 127 ≤ n → below_limit n ≡ None
 none_over_limit n h = let e : nat_lt n (2 ^ 127) ≡ false = grind (arith, nat_tests) in rw e refl
 
--- The digits up to the k-th make too large a number, and so do all.
+-- If the first `k` + 1 digits make a number beyond the limit, so do all.
 pub over_early : (start n : ℕ) (digits : List ℕ) (k : ℕ) → k < length digits → fold with_digit start digits ≡ fold with_digit n (drop k digits) → below_limit (with_digit n (get_or digits k 0)) ≡ None → below_limit (fold with_digit start digits) ≡ None
 over_early start n digits k lt e over =
     let step : fold with_digit n (drop k digits) ≡ fold with_digit (with_digit n (get_or digits k 0)) (drop (k + 1) digits) = at_drop_more (fold with_digit n) digits k 0 lt in
@@ -67,7 +67,7 @@ in_limit n m h = pick (nat_lt n (2 ^ 127)) refl h
     pick true e h = (cc, grind (arith, nat_tests))
     pick false e h = cc
 
--- The digits before the point alone make too large a number.
+-- If the digits before the point alone make a number beyond the limit, the text exceeds the limits.
 pub too_large_whole : (text : List ℕ) → below_limit (fold with_digit 0 (whole text)) ≡ None → is_too_large text ≡ true
 too_large_whole text h =
     let large = over_limit (fold with_digit 0 (whole text)) h in
@@ -76,7 +76,7 @@ too_large_whole text h =
     let e : nat_le (2 ^ 127) (fold with_digit 0 (whole text ++ fraction text)) ≡ true = grind (arith, nat_tests) in
     rw e refl
 
--- The digits that are kept make no larger number than all.
+-- The digits without trailing zeros make no larger number than all digits.
 pub kept_in_limit : (start m : ℕ) (digits : List ℕ) → below_limit (fold with_digit start digits) ≡ Some m → below_limit (fold with_digit start (without_last_zeros digits)) ≡ None → ⊥
 kept_in_limit start m digits h none =
     let small = in_limit (fold with_digit start digits) m h in

@@ -1,4 +1,5 @@
--- Worked rows of the grammar of expressions: small texts with the trees that they spell, and trees that no text spells.
+-- Worked examples of the grammar of expressions: small texts with the trees that they spell, and
+-- trees that no text spells.
 use Rattle.heyvl_places.specs.declared.spans.Span.{Span}
 use Rattle.heyvl_syntax.proofs.Texts.{a, b, c, key, leaf, name, sign, span, text, token, word}
 use Rattle.heyvl_syntax.specs.Expressions.{Expression}
@@ -50,7 +51,7 @@ choice :
 choice =
     ((_, _, token, (_, _, token, (_, _, leaf, (_, _, token, (_, _, leaf, (_, _, token, (_, _, leaf, token, refl), refl), refl), refl), refl), refl), refl), refl)
 
--- ('!'|'-'|'~') e9, where e9 is an atom, and where it is one more of these.
+-- ('!'|'-'|'~') e9, where e9 is an atom, and where it is another prefix operator with its operand.
 prefixes_of_atoms : (op : UnaryOp) → IsFull (Expression.unary op (name a 1) (span 0 2)) (text (sign (prefix op) ∷ word a ∷ []))
 prefixes_of_atoms op = ((_, _, token, leaf, refl), refl)
 
@@ -58,7 +59,7 @@ prefixes_of_prefixes : (o p : UnaryOp) →
     IsFull (Expression.unary o (Expression.unary p (name a 2) (span 1 3)) (span 0 3)) (text (sign (prefix o) ∷ sign (prefix p) ∷ word a ∷ []))
 prefixes_of_prefixes o p = ((_, _, token, ((_, _, token, leaf, refl), refl), refl), refl)
 
--- Each binary operator and its operands are within e1.
+-- The ranks of each binary operator and of its operands are at most that of e1.
 bounds : (op : BinaryOp) → ((ranks op).rank ≤ 8) × ((ranks op).left ≤ 8) × ((ranks op).right ≤ 8)
 bounds ops.Imply = (omega arith, omega arith, omega arith)
 bounds ops.CoImply = (omega arith, omega arith, omega arith)
@@ -98,7 +99,7 @@ rank_positive ops.Minus = omega arith
 rank_positive ops.Star = omega arith
 rank_positive ops.Slash = omega arith
 
--- Each operator between two names. Its place is that of the operator.
+-- Each operator between two names. The place of the expression is that of the operator.
 binaries : (op : BinaryOp) → IsFull (Expression.binary op (name a 0) (name b 2) (span 1 2)) (text (word a ∷ operator op ∷ word b ∷ []))
 binaries op = (expr_bound op, (_, _, leaf, (_, _, refl, leaf, refl), refl))
 
@@ -148,7 +149,7 @@ coimply_right = right_grouped ops.CoImply ops.Imply (omega arith)
 coimply_not_left : (ts : List Token) → IsFull (left_tree ops.CoImply ops.CoImply) ts → ⊥
 coimply_not_left = not_left ops.CoImply ops.CoImply (omega arith)
 
--- a < b < c is no expression, grouped either way.
+-- a < b < c is no expression, in either grouping.
 less_not_left : (ts : List Token) → IsFull (left_tree ops.Less ops.Less) ts → ⊥
 less_not_left = not_left ops.Less ops.Less (omega arith)
 
@@ -189,7 +190,8 @@ cup_left = left_grouped ops.Cup ops.Cup (omega arith)
 cup_not_right : (ts : List Token) → IsFull (right_tree ops.Cup ops.Cup) ts → ⊥
 cup_not_right = not_right ops.Cup ops.Cup (omega arith)
 
--- Each level binds tighter than the one before: in a o b p c, with o of the looser level, p comes first.
+-- Each level binds tighter than the one before: in a o b p c, with o of the looser level, p is the
+-- inner operator.
 cup_in_imply : IsFull (right_tree ops.Imply ops.Cup) (pair_text ops.Imply ops.Cup)
 cup_in_imply = right_grouped ops.Imply ops.Cup (omega arith)
 
@@ -245,15 +247,15 @@ prefix_not_of_binary op o s p x y ts spelled =
     let within = spelled.0.3.0 in
     absurd (omega arith)
 
--- ('sup'|'inf') W ':' type '.' expr: the body goes as far as it can. The place of the whole ends with its last token, and that of the
--- body is its operator's.
+-- ('sup'|'inf') W ':' type '.' expr: the body extends as far as possible. The place of the
+-- quantifier ends with its last token, and the place of its body is that of the operator.
 quantifiers : (up : Bool) →
     IsFull (Expression.bound up a types.UInt (Expression.binary ops.Plus (name b 5) (name c 7) (span 6 7)) (span 0 8))
     (text (key (quantifier_key up) ∷ word a ∷ sign marks.Colon ∷ key keys.UIntWord ∷ sign marks.Dot ∷ word b ∷ sign marks.Plus ∷ word c ∷ []))
 quantifiers up =
     (omega arith, (_, _, token, (_, _, token, (_, _, token, (_, _, token, (_, _, token, (omega arith, (_, _, leaf, (_, _, refl, leaf, refl), refl)), refl), refl), refl), refl), refl), refl)
 
--- A quantifier is no operand without parentheses.
+-- A quantifier without parentheses is no operand.
 quantifier_not_left : (o : BinaryOp) (up : Bool) (x y : Expression) (s t : Span) (ts : List Token) →
     IsFull (Expression.binary o (Expression.bound up a types.UInt x s) y t) ts → ⊥
 quantifier_not_left o up x y s t ts spelled =
@@ -272,18 +274,18 @@ quantifier_not_prefixed : (op : UnaryOp) (up : Bool) (x : Expression) (s t : Spa
     IsFull (Expression.unary op (Expression.bound up a types.UInt x s) t) ts → ⊥
 quantifier_not_prefixed op up x s t ts spelled = let within = spelled.0.3.0 in absurd (omega arith)
 
--- With parentheses it is one: a + (sup b: Bool. c).
+-- In parentheses it is one: a + (sup b: Bool. c).
 quantifier_in_group :
     IsFull (Expression.binary ops.Plus (name a 0) (Expression.group (Expression.bound true b types.Bool (name c 8) (span 3 9)) (span 2 10)) (span 1 2))
     (text (word a ∷ sign marks.Plus ∷ sign marks.ParenLeft ∷ key keys.Sup ∷ word b ∷ sign marks.Colon ∷ key keys.BoolWord ∷ sign marks.Dot ∷ word c ∷ sign marks.ParenRight ∷ []))
 quantifier_in_group =
     (omega arith, (_, _, leaf, (_, _, refl, ((_, _, token, (_, _, (omega arith, (_, _, token, (_, _, token, (_, _, token, (_, _, token, (_, _, token, leaf, refl), refl), refl), refl), refl), refl), token, refl), refl), refl), refl), refl))
 
--- The words of notes and rules are names like others.
+-- The identifiers of notes and annotations are names like others.
 plain_word : IsFull (name (codes "wlp") 0) (text (word (codes "wlp") ∷ []))
 plain_word = leaf
 
--- A place that isn't the node's own is refused: here that of the body in place of the group's.
+-- A tree with a wrong place is not spelled: here the group has the place of its body.
 first_bytes : (s t : Span) → s ≡ t → s.from ≡ t.from
 first_bytes s t e = ap (λ z. z.from) e
 

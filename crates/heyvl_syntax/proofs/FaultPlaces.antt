@@ -1,4 +1,4 @@
--- Where the first fault of a file may stand.
+-- The possible places of the first error of a file.
 use Rattle.heyvl_places.specs.declared.spans.Span.{Span}
 use Rattle.heyvl_syntax.proofs.InOrder.{part_le, stand_in_order}
 use Rattle.heyvl_syntax.specs.SourceFaults.{IsSourceFault, token_place}

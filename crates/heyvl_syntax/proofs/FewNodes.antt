@@ -17,7 +17,7 @@ use Rattle.std.proofs.Common.{List, None, Option, Some, [], ap, arith, inl, inr,
 use Rattle.std.proofs.lemmas.List.Sums.{sum_by-cons}
 use Rattle.std.specs.List.{sum_by}
 
--- A text of this production has at least n tokens.
+-- A text of the production `P` has at least `n` tokens.
 record HasAtLeast (P : List Token → Type 0) (n : ℕ) : Type 0 where
   bound : (ts : List Token) → P ts → n ≤ length ts
 
@@ -58,7 +58,7 @@ either {P} {Q} {n} p q = record { bound = cases }
     cases ts (inl h) = p.bound ts h
     cases ts (inr h) = q.bound ts h
 
--- The items of a sequence, with their sizes.
+-- Sequences of items, with their sizes.
 each : {A : Type 0} (P : A → List Token → Type 0) (size : A → ℕ) → ((x : A) → HasAtLeast (P x) (size x)) → (xs : List A) → HasAtLeast (IsEach P xs) (sum_by size xs)
 each P size item [] = any (IsEach P [])
 each P size item (x ∷ xs) = rw sum_by-cons (item x before each P size item xs)
@@ -103,7 +103,7 @@ full a = expr a 9
 all_of : (xs : List Expression) → HasAtLeast (IsList0 IsFull xs) (nodes_of_all xs)
 all_of xs = items0 IsFull nodes full xs
 
--- Right sides and rules.
+-- Right sides and annotations.
 weighted : (part : Expression × Expression) → HasAtLeast (IsWeighted part) (nodes part.0 + nodes part.1)
 weighted part = less (nodes part.0 + nodes part.1) (omega arith) (full part.0 before mark marks.Colon before full part.1)
 

@@ -1,4 +1,4 @@
--- A front that is found has at least one byte, and lies inside the bytes.
+-- What is found has at least one byte, and is within the bytes.
 use Rattle.heyvl_syntax.proofs.FrontIs.{front-inside, front-is}
 use Rattle.heyvl_syntax.specs.internal.Fronts.{FitsIn, IsInside, IsWithin, found_of, front_of}
 use Rattle.heyvl_syntax.specs.Literals.{is_too_large}

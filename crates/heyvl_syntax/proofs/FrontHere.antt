@@ -1,4 +1,4 @@
--- What stands at the front of bytes, by the front that is found.
+-- What bytes begin with, for each result of the code.
 use Rattle.heyvl_syntax.proofs.FrontIs.{IsFront, front-is}
 use Rattle.heyvl_syntax.specs.internal.Fronts.{found_of, front_of, number_front}
 use Rattle.heyvl_syntax.specs.Literals.{is_too_large, literal}

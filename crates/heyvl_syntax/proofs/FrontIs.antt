@@ -1,4 +1,4 @@
--- What is computed at the front of bytes is what stands there.
+-- The computation of what bytes begin with agrees with the definition of tokens.
 use Rattle.heyvl_syntax.proofs.CommentEnds.{closes_first, never_closes}
 use Rattle.heyvl_syntax.proofs.Longest.{digit_number, mark_token, number-le, number_len-le, number_read, same_first, starts, word_le}
 use Rattle.heyvl_syntax.proofs.Runs.{and_left, not_true, run_passes, word_run_ends, word_run_stops}
@@ -26,7 +26,7 @@ use Rattle.std.specs.Char.{is_ascii_digit}
 use Rattle.std.specs.Cmp.Lexicographic.{pointwise, same_text}
 use Rattle.std.specs.List.{position_or_len, prefix_len, starts_with}
 
--- The front says what stands there.
+-- `IsFront bytes found`: `found` is what `bytes` begin with.
 abbrev pub IsFront : List ℕ → Found → Type 0
 IsFront bytes fronts.End = bytes ≡ []
 IsFront bytes (fronts.Blank n) = (IsWhite bytes × (n ≡ 1)) ⊎ (IsLineComment bytes n ⊎ IsBlockComment bytes n)
@@ -34,7 +34,7 @@ IsFront bytes (fronts.Token kind n) =
     (opens_comment bytes ≡ false) × IsLongest bytes kind n × (is_beyond_limits kind (take n bytes) ≡ false)
 IsFront bytes (fronts.Fault number n) = IsFault bytes number n
 
--- No token at the front is longer than n.
+-- No token with which the bytes begin has more than `n` bytes.
 abbrev BoundsTokens : List ℕ → ℕ → Type 0
 BoundsTokens bytes n = (kind : TokenKind) (text rest : List ℕ) → IsToken kind text rest → text ++ rest ≡ bytes → length text ≤ n
 
@@ -62,7 +62,7 @@ block-is bytes (Some place) o h =
     let (inner, same, first) = closes_first 0 (drop 2 bytes) place h in
     inr (inr (record { opens = o; inner = inner; closes = first.closes; first = first.first; ends = omega (arith, same) }))
 
--- Words and keys.
+-- Identifiers and keywords.
 no_backslash : (kind : TokenKind) (text rest : List ℕ) (b : ℕ) (cs bs : List ℕ) → is_letter b ≡ false → opens_word b ≡ true → key_of (word_text (b ∷ bs)) ≡ None → IsToken kind text rest → text ≡ b ∷ cs → cs ++ rest ≡ bs → BeginsBy kind b cs → ⊥
 no_backslash (kinds.Word name) text rest b cs bs l o none token same later by = let yes = by.0 in cc
 no_backslash (kinds.Number lit) text rest b cs bs l o none token same later by = let no = digit_opens_no_word b by in cc
@@ -76,7 +76,7 @@ no_backslash (kinds.Mark mark) text rest b cs bs l o none token same later by =
     let no = not_true (opens_word b) (and_left (not (opens_word b)) (not (is_ascii_digit b) && not (is_white b)) by) in
     cc
 
--- No token stands at the front.
+-- No token begins.
 no_token_from : (bytes : List ℕ) → ((kind : TokenKind) (text rest : List ℕ) → IsToken kind text rest → text ++ rest ≡ bytes → ⊥) → (kind : TokenKind) (n : ℕ) → IsTokenOf bytes kind n → ⊥
 no_token_from bytes none kind n (within, token) = none kind (take n bytes) (drop n bytes) token (take-append-drop n bytes)
 
@@ -130,7 +130,7 @@ number-is b bs large d c h =
     pick true h = inr (inr (refl, record { kind = kinds.Number (literal (number_text (b ∷ bs))); no_comment = c; longest = number_longest b bs d; beyond = h }))
     pick false h = (c, number_longest b bs d, h)
 
--- Marks.
+-- Symbols.
 mark-is : (b : ℕ) (bs : List ℕ) (found : Option Mark) → opens_word b ≡ false → is_ascii_digit b ≡ false → is_white b ≡ false → opens_comment (b ∷ bs) ≡ false → mark_of (b ∷ bs) ≡ found → IsFront (b ∷ bs) (mark_front found)
 mark-is b bs (Some mark) o d w c h = (c, longest_from (b ∷ bs) (kinds.Mark mark) (length (mark_text mark)) token bound, refl)
   where
@@ -172,7 +172,7 @@ pub front-is : (bytes : List ℕ) → IsFront bytes (front_of bytes)
 front-is [] = refl
 front-is (b ∷ bs) = by_first (is_white b) (opens_line (b ∷ bs)) (opens_block (b ∷ bs)) (opens_word b) (is_ascii_digit b) b bs refl refl refl refl refl
 
--- It has a byte, and lies inside.
+-- What is found is not empty, and is within the bytes.
 pub closes_len : (bytes : List ℕ) (k : ℕ) → closes_at bytes k ≡ true → k + 2 ≤ length bytes
 closes_len bytes k h = omega (arith, starts_len (drop k bytes) (42 ∷ 47 ∷ []) h, length-drop k bytes)
 

@@ -1,4 +1,4 @@
--- Tokens stand one behind another, and the bytes of their spans spell them.
+-- Tokens are in order without overlap, and the bytes of their spans spell them.
 use Rattle.heyvl_syntax.proofs.FrontIs.{front-inside, longest_some}
 use Rattle.heyvl_syntax.proofs.SmallLiterals.{literal_in_limits}
 use Rattle.heyvl_syntax.specs.Literals.{IsInLimits}
@@ -13,7 +13,7 @@ use Rattle.heyvl_syntax.specs.declared.tokens.TokenKind.{TokenKind}
 use Rattle.std.proofs.Common.{List, [], arith, drop, false, inl, inr, length, slice_range, subst, sym, take, ◌+◌, ◌-◌, ◌<◌, ◌∷◌, ◌≡◌, ◌≤◌, ℕ}
 use Rattle.std.proofs.lemmas.List.{drop-drop, length-drop}
 
--- From the place of one of the parts on.
+-- From the place of any part on.
 small_literal : (kind : TokenKind) (text rest : List ℕ) → IsToken kind text rest → is_beyond_limits kind text ≡ false → HasSmallLiteral kind
 small_literal (kinds.Word name) text rest t h = tt
 small_literal (kinds.Number lit) text rest t h = subst (λ (l : Lit). IsInLimits l) (sym t.0) (literal_in_limits text t.1 h)

@@ -2,6 +2,7 @@ mod Beginnings
 mod CommentEnds
 mod Digits
 mod ExpressionRows
+mod FaultExamples
 mod FaultPlaces
 mod FewNodes
 mod FrontFits

@@ -1,4 +1,4 @@
--- Worked rows of the load, computed.
+-- Worked examples of the load, computed.
 use Rattle.heyvl_syntax.specs.Load.{loads, overload}
 use Rattle.heyvl_syntax.specs.declared.keys.Key.TheVariants as keys
 use Rattle.heyvl_syntax.specs.declared.keys.Key.{Key}
@@ -10,7 +10,7 @@ use Rattle.heyvl_syntax.specs.declared.tokens.TokenKind.{TokenKind}
 use Rattle.std.specs.Prelude.{pos}
 use Rattle.std.proofs.Common.{List, [], codes, length, refl, replicate, ◌++◌, ◌∷◌, ◌≡◌, ℕ}
 
--- The load doesn't depend on places.
+-- The load does not depend on places.
 abbrev here : TokenKind → Token
 here kind = record { kind = kind; span = record { from = 0; to = 0 } }
 
@@ -29,7 +29,7 @@ number = here (kinds.Number (record { digits = pos 1; places = 0 }))
 abbrev of_text : List Token → List ℕ
 of_text = loads (0 ∷ [])
 
--- The empty text has no load, and no token is above the limit.
+-- The empty text has no loads, and no token exceeds the limit.
 no_tokens : of_text [] ≡ []
 no_tokens = refl
 
@@ -63,7 +63,8 @@ havoc_text =
 havoc_text_is : of_text havoc_text ≡ 0 ∷ 0 ∷ 1 ∷ 0 ∷ 0 ∷ 1 ∷ 1 ∷ 1 ∷ 1 ∷ 0 ∷ 0 ∷ 0 ∷ 0 ∷ 1 ∷ 1 ∷ 0 ∷ 1 ∷ 1 ∷ 1 ∷ 0 ∷ []
 havoc_text_is = refl
 
--- 200 open parentheses are within the limit. The 201st, behind 8 tokens of a head the one with index 208, is above it.
+-- 200 open parentheses are within the limit. The 201st, which has index 208 after the 8 tokens of a
+-- head, exceeds it.
 parentheses_200 : overload (head ++ replicate 200 (mark marks.ParenLeft)) ≡ 208
 parentheses_200 = refl
 
@@ -79,11 +80,11 @@ alone_200 = refl
 alone_201 : overload (replicate 201 (mark marks.BraceLeft) ++ word ∷ []) ≡ 200
 alone_201 = refl
 
--- Brackets close one another whatever their kind: ( [ } {
+-- Brackets close each other whatever their kind: ( [ } {
 mixed_brackets : of_text (mark marks.ParenLeft ∷ mark marks.BracketLeft ∷ mark marks.BraceRight ∷ mark marks.BraceLeft ∷ []) ≡ 1 ∷ 2 ∷ 1 ∷ 2 ∷ []
 mixed_brackets = refl
 
--- Closing brackets without opening ones leave the one count as it is: + ) ] + } (
+-- Closing brackets without opening ones keep the single count: + ) ] + } (
 unopened_brackets :
     of_text (mark marks.Plus ∷ mark marks.ParenRight ∷ mark marks.BracketRight ∷ mark marks.Plus ∷ mark marks.BraceRight ∷ mark marks.ParenLeft ∷ [])
     ≡ 1 ∷ 1 ∷ 1 ∷ 2 ∷ 2 ∷ 3 ∷ []
@@ -98,13 +99,15 @@ operators_alone = refl
 operators_201 : overload (replicate 201 (mark marks.Bang)) ≡ 200
 operators_201 = refl
 
--- A closed bracket takes its operators with it, and what separates sets the innermost count alone to 0: - ( - - , - ) - ; -
+-- A closed bracket takes its count along, and a separator sets only the innermost count to 0: - ( -
+-- - , - ) - ; -
 separated :
     of_text (mark marks.Minus ∷ mark marks.ParenLeft ∷ mark marks.Minus ∷ mark marks.Minus ∷ mark marks.Comma ∷ mark marks.Minus ∷ mark marks.ParenRight ∷ mark marks.Minus ∷ mark marks.Semi ∷ mark marks.Minus ∷ [])
     ≡ 1 ∷ 2 ∷ 3 ∷ 4 ∷ 2 ∷ 3 ∷ 1 ∷ 2 ∷ 0 ∷ 1 ∷ []
 separated = refl
 
--- if \cap adds too, after `if` has set the count to 0; colons, points, arrows, question marks, ite, flip and choose keep the counts.
+-- if \cap adds 1 after `if` has set the count to 0; colons, points, arrows, question marks, ite,
+-- flip and choose keep the counts.
 picks : of_text (mark marks.Plus ∷ key keys.If ∷ key keys.Cap ∷ []) ≡ 1 ∷ 0 ∷ 1 ∷ []
 picks = refl
 

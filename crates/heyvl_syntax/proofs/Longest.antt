@@ -19,7 +19,7 @@ use Rattle.std.specs.Char.{is_ascii_digit}
 use Rattle.std.specs.Cmp.Lexicographic.{other_text, pointwise}
 use Rattle.std.specs.List.{list_all, prefix_len, starts_with}
 
--- A token that begins with a letter, `_` or `\` goes on in letters, digits and `_`.
+-- A token that begins with a letter, `_` or `\` continues with letters, digits and `_`.
 by_word : (kind : TokenKind) (c : ℕ) (cs : List ℕ) → opens_word c ≡ true → BeginsBy kind c cs → list_all is_word_byte cs ≡ true
 by_word (kinds.Word name) c cs o h = h.1
 by_word (kinds.Number lit) c cs o h = let no = digit_opens_no_word c h in absurd (cc)
@@ -47,7 +47,7 @@ word_le kind text rest b bs o token all =
     let (cs, same, later, word) = word_tail kind text rest b bs o token all in
     tail_le b text cs rest bs same later word
 
--- A digit begins numbers alone.
+-- Only numbers begin with a digit.
 by_digit : (kind : TokenKind) (c : ℕ) (cs : List ℕ) → is_ascii_digit c ≡ true → BeginsBy kind c cs → (text rest : List ℕ) → IsToken kind text rest → IsNumber text
 by_digit (kinds.Word name) c cs d h text rest token =
     let yes = letter_opens_word c h.0 in
@@ -72,7 +72,7 @@ digit_number kind text rest b bs d token all =
     let (cs, same, by) = same_first kind text rest b bs token all in
     by_digit kind b cs d by text rest token
 
--- A number is no longer than what is read.
+-- No number is longer than the one that the code reads.
 digits-le : (text rest : List ℕ) → IsDigits text → length text ≤ number_len (text ++ rest)
 digits-le text rest digits =
     let le = passes-le_run is_ascii_digit text rest digits.1 in
@@ -98,7 +98,7 @@ number-le text rest (inr (whole, fraction, digits, more, same)) =
     let all : text ++ rest ≡ whole ++ 46 ∷ (fraction ++ rest) = rw same (append_assoc whole (46 ∷ fraction) rest) in
     rw (all, len) le
 
--- What is read is a number.
+-- The text that the code reads is a number.
 point_is : (b : ℕ) → is_point b ≡ true → b ≡ 46
 point_is b h = grind (arith, nat_tests)
 
@@ -147,7 +147,7 @@ fraction_len-le (c ∷ cs) = pick (is_point c)
 pub number_len-le : (bytes : List ℕ) → number_len bytes ≤ length bytes
 number_len-le bytes = omega (arith, fraction_len-le (drop (prefix_len is_ascii_digit bytes) bytes), length-drop (prefix_len is_ascii_digit bytes) bytes, prefix_len-le-length is_ascii_digit bytes)
 
--- Where neither a word, a key nor a number begins, a token is a mark.
+-- A token that begins neither an identifier, a keyword nor a number is a symbol.
 by_mark : (kind : TokenKind) (c : ℕ) (cs : List ℕ) → opens_word c ≡ false → is_ascii_digit c ≡ false → BeginsBy kind c cs → (text rest : List ℕ) → IsToken kind text rest → (mark : Mark) × (kind ≡ kinds.Mark mark) × (text ≡ mark_text mark)
 by_mark (kinds.Word name) c cs o d h text rest token = let yes = letter_opens_word c h.0 in absurd (cc)
 by_mark (kinds.Number lit) c cs o d h text rest token = absurd (cc)
@@ -159,7 +159,7 @@ mark_token kind text rest b bs o d token all =
     let (cs, same, by) = same_first kind text rest b bs token all in
     by_mark kind b cs o d by text rest token
 
--- A text that stands at the front is found there.
+-- If the bytes begin with a text, the test says so.
 same_passes : (xs ys : List ℕ) (x : Bool) → pointwise nat_eq xs ys ≡ x → xs ≡ ys → x ≡ true
 same_passes xs ys true e h = refl
 same_passes xs ys false e h = absurd (other_text xs ys (sym e) h)
@@ -169,7 +169,7 @@ starts text rest bytes all =
     let front : take (length text) bytes ≡ text = rw (← all) (take-append_seam text rest) in
     same_passes text (take (length text) bytes) (pointwise nat_eq text (take (length text) bytes)) refl (sym front)
 
--- A token begins with no white space.
+-- No token begins with white space.
 no_white : (kind : TokenKind) (c : ℕ) (cs : List ℕ) → BeginsBy kind c cs → is_white c ≡ false
 no_white (kinds.Word name) c cs h = word_no_white c (letter_opens_word c h.0)
 no_white (kinds.Number lit) c cs h = digit_no_white c h

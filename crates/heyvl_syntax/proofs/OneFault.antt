@@ -1,4 +1,4 @@
--- A file has at most one first fault, and none where it is spelled within the limits.
+-- A file has at most one first error, and none if it is spelled within the limits.
 use Rattle.heyvl_places.specs.declared.spans.Span.{Span}
 use Rattle.heyvl_syntax.proofs.Beginnings.{same_place, unexpected_unique}
 use Rattle.heyvl_syntax.proofs.Unique.{lexes_no_stop, lexes_unique, stops_unique}
@@ -16,7 +16,7 @@ light_or_over tokens i light over = let e = over.is_first in let h = over.inside
 count_front : (tokens : List Token) (i : ℕ) → procedure_count (take i tokens) ≤ procedure_count tokens
 count_front tokens i = sum_by-take-le (λ t. cond (is_procedure_key t.kind) 1 0) tokens i
 
-crowd_or_few : (tokens : List Token) (i : ℕ) → IsUncrowded tokens → IsCrowd tokens i → ⊥
+pub crowd_or_few : (tokens : List Token) (i : ℕ) → IsUncrowded tokens → IsCrowd tokens i → ⊥
 crowd_or_few tokens i few crowd = let n = count_front tokens (i + 1) in let e = crowd.with_it in absurd (omega arith)
 
 crowd_order : (tokens : List Token) (i j : ℕ) → IsCrowd tokens i → IsCrowd tokens j → i < j → ⊥

@@ -1,4 +1,5 @@
--- Worked rows of the grammar of procedures and files: small texts with the trees that they spell.
+-- Worked examples of the grammar of procedures and files: small texts with the trees that they
+-- spell.
 use Rattle.heyvl_syntax.proofs.Texts.{a, b, c, key, leaf, name, sign, span, text, token, word}
 use Rattle.heyvl_syntax.specs.Grammar.{Clause, IsClauses, IsFile, IsNote, IsParam, IsProc, note_word, proc_key}
 use Rattle.heyvl_syntax.specs.Procedures.{Procedure}
@@ -17,7 +18,7 @@ use Rattle.std.proofs.Common.{Bool, List, None, Some, [], codes, false, refl, tr
 note_rows : (note : Note) → IsNote note (text (sign marks.AtSign ∷ word (note_word note) ∷ []))
 note_rows note = (_, _, token, token, refl)
 
--- W ':' type, the first token of which begins at this byte.
+-- W ':' type, where the first token begins at the given byte.
 param : List ℕ → ℕ → Param
 param x i = record { name = x; ty = types.Bool; span = span i (i + 3) }
 
@@ -47,7 +48,8 @@ clause_rows :
 clause_rows =
     (Clause.pre (name a 1) ∷ Clause.post (name b 3) ∷ Clause.pre (name c 5) ∷ [], (_, _, (_, _, token, leaf, refl), (_, _, (_, _, token, leaf, refl), (_, _, (_, _, token, leaf, refl), refl, refl), refl), refl), refl, refl)
 
--- A procedure without a note, inputs, outputs, clauses and body: its place ends with its last parenthesis.
+-- A procedure without a note, inputs, outputs, clauses and body: its place ends with its last
+-- parenthesis.
 bare_kinds : Bool → List TokenKind
 bare_kinds co =
     key (proc_key co) ∷ word a ∷ sign marks.ParenLeft ∷ sign marks.ParenRight ∷ sign marks.Arrow ∷ sign marks.ParenLeft ∷ sign marks.ParenRight ∷ []

@@ -1,4 +1,4 @@
--- Worked rows of the definitions of tokens, computed.
+-- Worked examples of the definitions of tokens, computed.
 
 use Rattle.heyvl_syntax.specs.internal.Fronts.{front_of}
 use Rattle.heyvl_syntax.specs.Literals.{is_too_large, literal}
@@ -9,7 +9,7 @@ use Rattle.heyvl_syntax.specs.declared.marks.Mark.TheVariants as marks
 use Rattle.heyvl_syntax.specs.declared.tokens.TokenKind.TheVariants as kinds
 use Rattle.std.proofs.Common.{[], codes, false, pos, refl, true, ◌∷◌, ◌≡◌}
 
--- Literals lose the zeros at their end behind the point, and keep what stands before it.
+-- Literals drop trailing zeros after the point, and keep the digits before it.
 half_is : literal (codes "0.50") ≡ record { digits = pos 5; places = 1 }
 half_is = refl
 
@@ -35,7 +35,7 @@ too_large = refl
 too_large_with_point : is_too_large (codes "17014118346046923173168730371588410572.8") ≡ true
 too_large_with_point = refl
 
--- Zeros at the end behind the point count; leading zeros don't.
+-- Trailing zeros after the point count; leading zeros do not.
 last_zeros_count : is_too_large (codes "100000000000000000000000000000000000000.0") ≡ true
 last_zeros_count = refl
 
@@ -48,7 +48,7 @@ places_38 = refl
 places_39 : is_too_large (codes "0.000000000000000000000000000000000000000") ≡ true
 places_39 = refl
 
--- What stands at the front.
+-- What bytes begin with.
 no_bytes : front_of [] ≡ fronts.End
 no_bytes = refl
 

@@ -1,4 +1,5 @@
--- How many elements at the front of a list pass a test, where the list is split into a text and its rest.
+-- The number of elements with a property at the beginning of a list, which is split into a text and
+-- its rest.
 use Rattle.heyvl_syntax.specs.Bytes.{ends_word, is_word_byte}
 use Rattle.std.proofs.Common.{Bool, List, [], arith, cond, drop, false, length, not, refl, suc, sym, take, true, ◌&&◌, ◌++◌, ◌+◌, ◌∷◌, ◌≡◌, ◌≤◌, ℕ}
 use Rattle.std.specs.List.{list_all, prefix_len}
@@ -14,7 +15,7 @@ pub and_right : (x y : Bool) → x && y ≡ true → y ≡ true
 and_right true y h = h
 and_right false y h = cc
 
--- What the run has passes.
+-- All elements of the run have the property.
 pub run_passes : (p : ℕ → Bool) (bs : List ℕ) → list_all p (take (prefix_len p bs) bs) ≡ true
 run_passes p [] = refl
 run_passes p (b ∷ bs) = pick (p b) refl (run_passes p bs)
@@ -23,14 +24,14 @@ run_passes p (b ∷ bs) = pick (p b) refl (run_passes p bs)
     pick true e h = rw (one-add (prefix_len p bs), e, h) refl
     pick false e h = refl
 
--- A text that passes is no longer than the run.
+-- A text whose elements have the property is no longer than the run.
 pub passes-le_run : (p : ℕ → Bool) (text rest : List ℕ) → list_all p text ≡ true → length text ≤ prefix_len p (text ++ rest)
 passes-le_run p [] rest h = omega arith
 passes-le_run p (b ∷ bs) rest h =
     let more = passes-le_run p bs rest (and_right (p b) (list_all p bs) h) in
     rw (and_left (p b) (list_all p bs) h) (omega arith)
 
--- A text that passes, before an element that doesn't, is the run.
+-- A text whose elements have the property, before an element that has it not, is the run.
 pub run_stops : (p : ℕ → Bool) (text rest : List ℕ) (b : ℕ) → list_all p text ≡ true → p b ≡ false → prefix_len p (text ++ b ∷ rest) ≡ length text
 run_stops p [] rest b h f = rw f refl
 run_stops p (x ∷ xs) rest b h f =
@@ -51,7 +52,7 @@ pub word_run_stops : (text rest : List ℕ) → list_all is_word_byte text ≡ t
 word_run_stops text [] h e = run_ends is_word_byte text h
 word_run_stops text (b ∷ bs) h e = run_stops is_word_byte text bs b h (not_true (is_word_byte b) e)
 
--- A word ends where its run ends.
+-- No letter, digit or `_` follows the run of an identifier.
 pub word_run_ends : (bs : List ℕ) → ends_word (drop (prefix_len is_word_byte bs) bs) ≡ true
 word_run_ends [] = refl
 word_run_ends (b ∷ bs) = pick (is_word_byte b) refl (word_run_ends bs)

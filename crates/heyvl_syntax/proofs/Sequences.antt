@@ -1,4 +1,4 @@
--- Laws of sequences of parts: how a text is taken apart from its front.
+-- Laws of sequences of productions: how a text is taken apart from its first token on.
 use Rattle.heyvl_syntax.specs.Productions.{AreSemis, IsNothing, IsOne, at, ◌or◌, ◌then◌}
 use Rattle.heyvl_syntax.specs.declared.marks.Mark.TheVariants as marks
 use Rattle.heyvl_syntax.specs.declared.tokens.Token.{Token}
@@ -7,7 +7,7 @@ use Rattle.heyvl_syntax.specs.declared.tokens.TokenKind.{TokenKind}
 use Rattle.std.proofs.Common.{List, [], ap, inl, inr, refl, subst, sym, ◌++◌, ◌∙◌, ◌∷◌, ◌≡◌, ◌⊎◌}
 use Rattle.std.proofs.lemmas.List.{append_assoc}
 
--- Parts are weakened.
+-- Productions are replaced by weaker ones.
 pub then_map : (P P' Q Q' : List Token → Type 0) (ts : List Token) → ((xs : List Token) → P xs → P' xs) → ((xs : List Token) → Q xs → Q' xs) →
     (P then Q) ts → (P' then Q') ts
 then_map P P' Q Q' ts left right (xs, ys, p, q, e) = (xs, ys, left xs p, right ys q, e)
@@ -26,14 +26,14 @@ first : Token → List Token → Token
 first t [] = t
 first t (u ∷ us) = u
 
--- The first token has the kind that is asked for, and the rest follows.
+-- The first token has the given kind, and the other tokens spell the rest.
 pub one_then : (kind : TokenKind) (P : List Token → Type 0) (t : Token) (ts : List Token) → (IsOne kind then P) (t ∷ ts) → (t.kind ≡ kind) × P ts
 unfolding first rest
 one_then kind P t ts (xs, ys, (s, one), p, e) =
     let all : t ∷ ts ≡ at kind s ∷ ys = e ∙ ap (λ z. z ++ ys) one in
     (ap (λ z. (first t z).kind) all, subst P (sym (ap rest all)) p)
 
--- Semicolons, or what follows them.
+-- The first token is a semicolon, or the tokens spell the rest.
 pub semis_then : (P : List Token → Type 0) (t : Token) (ts : List Token) → (AreSemis then P) (t ∷ ts) → (t.kind ≡ kinds.Mark marks.Semi) ⊎ P (t ∷ ts)
 unfolding first
 semis_then P t ts ([], ys, semis, p, e) = inr (subst P (sym e) p)

@@ -20,7 +20,7 @@ no_points (b ∷ bs) h =
     let here = no_point b (and_left (is_ascii_digit b) (list_all is_ascii_digit bs) h) in
     rw (here, no_points bs (and_right (is_ascii_digit b) (list_all is_ascii_digit bs) h)) refl
 
--- The digits behind the point are digits.
+-- The characters after the point are digits.
 no_fraction : (text : List ℕ) → list_all is_ascii_digit text ≡ true → fraction text ≡ []
 no_fraction text h =
     let point : position_or_len is_point text ≡ length text = subst (λ (z : List ℕ). position_or_len is_point z ≡ length text) (append-nil text) (run_ends (λ b. not (is_point b)) text (no_points text h)) in
@@ -35,7 +35,7 @@ fraction_digits : (text : List ℕ) → IsNumber text → list_all is_ascii_digi
 fraction_digits text (inl digits) = rw (no_fraction text digits.1) refl
 fraction_digits text (inr (front, behind, digits, more, same)) = rw (same, fraction_behind front behind digits.1) more.1
 
--- What is left of digits without the zeros at their end, ends in another digit.
+-- Digits without trailing zeros are empty or end in another digit.
 pub record EndsInDigit (digits : List ℕ) : Type 0 where
   pub front : List ℕ
   pub last : ℕ

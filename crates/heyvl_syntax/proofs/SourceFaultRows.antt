@@ -1,4 +1,4 @@
--- Worked rows of the faults 4 to 6, computed.
+-- Worked examples of the errors 4 to 6, computed.
 use Rattle.heyvl_places.specs.declared.spans.Span.{Span}
 use Rattle.heyvl_syntax.specs.SourceFaults.{IsCrowd, IsLight, IsOverload, IsUncrowded, procedure_count, token_place}
 use Rattle.heyvl_syntax.specs.declared.keys.Key.TheVariants as keys
@@ -8,13 +8,13 @@ use Rattle.heyvl_syntax.specs.declared.tokens.Token.{Token}
 use Rattle.heyvl_syntax.specs.declared.tokens.TokenKind.TheVariants as kinds
 use Rattle.std.proofs.Common.{List, [], codes, lit<, lit≤, refl, replicate, ◌++◌, ◌∷◌, ◌≡◌, ℕ}
 
-abbrev span : ℕ → ℕ → Span
+abbrev pub span : ℕ → ℕ → Span
 span from to = record { from = from; to = to }
 
-abbrev key : Key → Span → Token
+abbrev pub key : Key → Span → Token
 key k s = record { kind = kinds.Key k; span = s }
 
-abbrev paren : Token
+abbrev pub paren : Token
 paren = record { kind = kinds.Mark marks.ParenLeft; span = span 11 12 }
 
 -- The 12 bytes coproc coin( have three tokens.
@@ -27,34 +27,35 @@ coin_has_one_procedure = refl
 coin_is_light : IsLight coin
 coin_is_light = refl
 
--- A fault at the fourth token, of which there is none, stands at the end of the bytes; one at the third stands there.
+-- Of an error at the fourth token, which does not exist, the place is the end of the bytes; of one
+-- at the third token, it is that of the token.
 coin_ends : token_place (codes "coproc coin(") coin 3 ≡ span 12 12
 coin_ends = refl
 
 coin_opens : token_place (codes "coproc coin(") coin 2 ≡ span 11 12
 coin_opens = refl
 
--- The end of no bytes at all.
+-- The end of the empty file.
 nothing_ends : token_place [] [] 0 ≡ span 0 0
 nothing_ends = refl
 
--- The 201st open parenthesis is fault 5.
-overload_201 : IsOverload (replicate 201 paren) 200
+-- The 201st open parenthesis is error 5.
+pub overload_201 : IsOverload (replicate 201 paren) 200
 overload_201 = record { inside = lit< tt; is_first = refl }
 
-light_200 : IsLight (replicate 200 paren)
+pub light_200 : IsLight (replicate 200 paren)
 light_200 = refl
 
--- 1,024 procedures are no crowd. The 1,025th is fault 6, be it a proc or a coproc.
-abbrev procs : ℕ → List Token
+-- 1,024 procedures are within the limit. The 1,025th is error 6, whether proc or coproc.
+abbrev pub procs : ℕ → List Token
 procs n = replicate n (key keys.Proc (span 0 4))
 
-uncrowded_1024 : IsUncrowded (procs 1024)
+pub uncrowded_1024 : IsUncrowded (procs 1024)
 uncrowded_1024 = lit≤ tt
 
-crowd_1025 : IsCrowd (procs 1024 ++ key keys.CoProc (span 4 10) ∷ []) 1024
+pub crowd_1025 : IsCrowd (procs 1024 ++ key keys.CoProc (span 4 10) ∷ []) 1024
 crowd_1025 = record { inside = lit< tt; before = refl; with_it = refl }
 
--- Other keys don't count.
+-- Other keywords do not count.
 other_keys : procedure_count (key keys.Pre (span 0 3) ∷ key keys.While (span 4 9) ∷ paren ∷ []) ≡ 0
 other_keys = refl

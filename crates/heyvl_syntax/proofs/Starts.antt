@@ -1,4 +1,4 @@
--- With which byte a token begins, and how long a token that begins with it is at most.
+-- The first byte of each token, and the largest length of a token that begins with it.
 use Rattle.heyvl_syntax.proofs.Runs.{and_left, and_right}
 use Rattle.heyvl_syntax.specs.Bytes.{is_letter, is_white, is_word_byte}
 use Rattle.heyvl_syntax.specs.Keys.{key_text}
@@ -16,11 +16,11 @@ use Rattle.std.proofs.lemmas.Bool.Decides.{nat_tests}
 use Rattle.std.specs.Char.{is_ascii_digit}
 use Rattle.std.specs.List.{list_all}
 
--- The first byte of a word or of a key.
+-- The first byte of an identifier or a keyword.
 abbrev pub opens_word : ℕ → Bool
 opens_word b = is_letter b || b == 92
 
--- The first byte of a mark.
+-- The first byte of a symbol.
 abbrev pub opens_mark : ℕ → Bool
 opens_mark b = not (opens_word b) && (not (is_ascii_digit b) && not (is_white b))
 
@@ -30,7 +30,7 @@ BeginsBy (kinds.Number lit) b bs = is_ascii_digit b ≡ true
 BeginsBy (kinds.Key key) b bs = (opens_word b ≡ true) × (list_all is_word_byte bs ≡ true)
 BeginsBy (kinds.Mark mark) b bs = opens_mark b ≡ true
 
--- The text has a first byte, by which its kind may begin.
+-- The text has a first byte with which a token of kind `kind` may begin.
 pub record Begins (kind : TokenKind) (text : List ℕ) : Type 0 where
   pub byte : ℕ
   pub behind : List ℕ

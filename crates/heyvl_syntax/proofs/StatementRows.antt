@@ -1,4 +1,5 @@
--- Worked rows of the grammar of statements: small texts with the trees that they spell, and trees that they don't spell.
+-- Worked examples of the grammar of statements: small texts with the trees that they spell, and
+-- trees that they do not spell.
 use Rattle.heyvl_places.specs.declared.checks.CheckKind.{CheckKind}
 use Rattle.heyvl_places.specs.declared.spans.Span.{Span}
 use Rattle.heyvl_syntax.proofs.Sequences.{nothing_then, one_then, or_then, semis_then, then_assoc, then_map}
@@ -17,7 +18,7 @@ use Rattle.heyvl_syntax.specs.declared.types.TypeName.TheVariants as types
 use Rattle.heyvl_syntax.specs.declared.types.TypeName.{TypeName}
 use Rattle.std.proofs.Common.{Bool, List, None, Some, [], codes, false, inl, inr, refl, true, ◌+◌, ◌∷◌, ◌≡◌, ◌⊎◌, ℕ}
 
--- One statement, and no semicolon behind it.
+-- One statement, without a semicolon after it.
 one : {s : Span} → IsStmts (Block.next (Statement.validate false s) Block.done) (at (key keys.Validate) s ∷ [])
 one {s = s} = (_, [], leaf, ([], [], tt, refl, refl), refl)
 
@@ -48,7 +49,7 @@ chooses_two :
 chooses_two =
     (_, _, token, (_, _, token, (_, _, (_, _, (_, _, leaf, (_, _, token, leaf, refl), refl), (_, _, token, (_, _, (_, _, leaf, (_, _, token, leaf, refl), refl), refl, refl), refl), refl), token, refl), refl), refl)
 
--- A choose has at least one part.
+-- A choose has at least one alternative.
 chooses_none : (ts : List Token) → IsRight (RightSide.choose []) ts → ⊥
 chooses_none ts spelled = spelled.3.3.2
 
@@ -186,7 +187,8 @@ pick_without_else : (up : Bool) →
 pick_without_else up =
     ((_, _, token, (_, _, token, (_, _, (_, _, token, (_, _, refl, token, refl), refl), inr (refl, refl), refl), refl), refl), refl)
 
--- rule* 'while' expr block, without a rule and with one. The place of the loop begins at its first rule.
+-- rule* 'while' expr block, without an annotation and with one. The place of the loop begins at its
+-- first annotation.
 loop_alone :
     IsStmt (Statement.loop [] (name a 1) Block.done (span 0 4))
     (text (key keys.While ∷ word a ∷ sign marks.BraceLeft ∷ sign marks.BraceRight ∷ []))
@@ -198,7 +200,7 @@ loop_with_rule :
 loop_with_rule =
     ((_, _, (_, _, ((_, _, token, (_, _, token, (_, _, token, (_, _, leaf, token, refl), refl), refl), refl), refl), refl, refl), (_, _, token, (_, _, leaf, (_, _, token, (_, _, refl, token, refl), refl), refl), refl), refl), refl)
 
--- '{' (stmt ';'*)* '}': statements one behind the other, and with semicolons.
+-- '{' (stmt ';'*)* '}': statements one after another, without and with semicolons.
 empty_block : IsBlock Block.done (text (sign marks.BraceLeft ∷ sign marks.BraceRight ∷ []))
 empty_block = (_, _, token, (_, _, refl, token, refl), refl)
 
@@ -220,7 +222,8 @@ key_no_mark k m e = cc
 next_not_done : (x : Statement) (xs : Block) → Block.next x xs ≡ Block.done → ⊥
 next_not_done x xs e = cc
 
--- 'else' 'if' doesn't follow 'if' '\\cap': no text that has it is the pick with that if in its else.
+-- `if` does not follow the `else` of `if \cap`: no text that has it there is the choice with that
+-- `if` in its `else`.
 if_at : Span → Block
 if_at s = Block.next (Statement.branch (Arms.arm (name a 6) Block.done Arms.no_arm) Block.done s) Block.done
 
@@ -240,7 +243,8 @@ else_if_after_pick s t spelled =
     no_else (inl e) = key_no_mark _ _ (one_then _ _ _ _ (one_then _ _ _ _ e).1).0
     no_else (inr e) = next_not_done _ _ e.0
 
--- The rules of a loop stand before its key: a text in which one stands behind it isn't the loop with that rule.
+-- The annotations of a loop precede `while`: a text that has one after `while` is not the loop with
+-- this annotation.
 rule_behind_while : (r : Expression) (s t : Span) →
     IsStmt (Statement.loop (LoopRule.invariant r s ∷ []) (name b 6) Block.done t)
     (text (key keys.While ∷ sign marks.AtSign ∷ word (codes "invariant") ∷ sign marks.ParenLeft ∷ word a ∷ sign marks.ParenRight ∷ word b ∷ sign marks.BraceLeft ∷ sign marks.BraceRight ∷ []))
@@ -248,7 +252,8 @@ rule_behind_while : (r : Expression) (s t : Span) →
 rule_behind_while r s t spelled =
     key_no_mark _ _ (one_then _ _ _ _ (then_assoc _ _ _ _ (then_map _ _ _ _ _ (λ xs h. h.0) (λ xs h. h) (then_assoc _ _ _ _ spelled.0)))).0
 
--- An else belongs to the if before it: if a { if b { } else { validate } } isn't the outer if with that else.
+-- An else belongs to the nearest if before it: if a { if b { } else { validate } } is not the outer
+-- if with that else.
 inner_if : Span → Block
 inner_if s = Block.next (Statement.branch (Arms.arm (name b 4) Block.done Arms.no_arm) Block.done s) Block.done
 

@@ -1,4 +1,4 @@
--- One more part of the bytes, and the end of them.
+-- One more part of the bytes, and their end.
 use Rattle.heyvl_syntax.proofs.FrontIs.{IsFront, front-is}
 use Rattle.heyvl_syntax.specs.internal.Fronts.{front_of}
 use Rattle.heyvl_syntax.specs.Tokens.{Lexes, Stops, comment, span_of, token, white}
@@ -9,7 +9,6 @@ use Rattle.heyvl_syntax.specs.declared.tokens.Token.{Token}
 use Rattle.heyvl_syntax.specs.declared.tokens.TokenKind.{TokenKind}
 use Rattle.std.proofs.Common.{List, [], ap, append_assoc, drop, inl, inr, refl, subst, sym, ◌++◌, ◌+◌, ◌∙◌, ◌∷◌, ◌≡◌, ℕ}
 
--- The token of this kind that the n bytes from a place on are.
 abbrev pub made : TokenKind → ℕ → ℕ → Token
 made kind place n = record { kind = kind; span = span_of place n }
 

@@ -1,4 +1,4 @@
--- What a look-up in the lists of keys and marks finds.
+-- The results of searching the lists of keywords and symbols.
 use Rattle.heyvl_syntax.proofs.Runs.{and_left, and_right}
 use Rattle.heyvl_syntax.specs.internal.Fronts.{all_keys, key_of, keys_from, mark_of, marks_by_length, marks_from}
 use Rattle.heyvl_syntax.specs.Keys.{key_text}
@@ -20,7 +20,7 @@ find_passes {X} p (y ∷ ys) x h = pick (p y) refl h (find_passes p ys x)
     pick true e h later = let same : y ≡ x = cc in subst (λ (z : X). p z ≡ true) same e
     pick false e h later = later h
 
--- The element at a place.
+-- The element at an index.
 abbrev pub at : {X : Type 0} → List X → ℕ → Option X
 at [] k = None
 at (x ∷ xs) zero = Some x
@@ -35,7 +35,7 @@ none_passes {X} p (x ∷ xs) k y h e = pick (p x) refl h (λ j. none_passes p xs
     pick false f h later zero e = let same : x ≡ y = cc in subst (λ (z : X). p z ≡ false) same f
     pick false f h later (suc k) e = later k h e
 
--- No later element is longer.
+-- No element is longer than one before it.
 abbrev pub falls : {X : Type 0} → (X → ℕ) → List X → Bool
 falls len [] = true
 falls len (x ∷ xs) = list_all (λ y. nat_le (len y) (len x)) xs && falls len xs
@@ -64,7 +64,6 @@ first_is_longest {X} len p (z ∷ zs) x y k f h e t = pick (p z) refl h (λ j. f
         absurd (cc)
     pick false g h later (suc k) e = later k h e t
 
--- Nothing is kept where nothing passes.
 pub none_kept : {X : Type 0} (p : X → Bool) (xs : List X) → list_all (λ x. not (p x)) xs ≡ true → filter p xs ≡ []
 none_kept p [] h = refl
 none_kept {X} p (x ∷ xs) h = pick (p x) refl h (none_kept p xs)
@@ -73,7 +72,8 @@ none_kept {X} p (x ∷ xs) h = pick (p x) refl h (none_kept p xs)
     pick true e h later = cc
     pick false e h later = later h
 
--- What is found among the kept is found among all, where whatever is sought is kept.
+-- A search among the filtered elements has the same result, if the filter keeps every element that
+-- is searched for.
 find_kept : {X : Type 0} (p q : X → Bool) (xs : List X) → ((x : X) → p x ≡ true → q x ≡ true) → find p (filter q xs) ≡ find p xs
 find_kept p q [] kept = refl
 find_kept {X} p q (x ∷ xs) kept = pick (q x) refl (p x) refl (find_kept p q xs kept)
@@ -83,7 +83,7 @@ find_kept {X} p q (x ∷ xs) kept = pick (q x) refl (p x) refl (find_kept p q xs
     pick false k true e later = let no = kept x e in cc
     pick false k false e later = rw e later
 
--- Each key is found by its text.
+-- The text of each keyword yields the keyword.
 pub key_read : (key : Key) → key_of (key_text key) ≡ Some key
 key_read keys.Proc = refl
 key_read _ = refl
@@ -102,7 +102,7 @@ same_key a b e =
     let other = key_read b in
     cc
 
--- Each mark stands in the list, at the place of its text.
+-- The index of each symbol in the list.
 mark_place : Mark → ℕ
 mark_place mark = position_or_len (λ other. pointwise nat_eq (mark_text other) (mark_text mark)) marks_by_length
 
@@ -129,14 +129,14 @@ mark_longest bytes mark other h t = first_is_longest (λ m. length (mark_text m)
 pub no_mark_starts : (bytes : List ℕ) → mark_of bytes ≡ None → (mark : Mark) → starts_with nat_eq bytes (mark_text mark) ≡ false
 no_mark_starts bytes h mark = none_passes (λ m. starts_with nat_eq bytes (mark_text m)) marks_by_length (mark_place mark) mark h (mark_at mark)
 
--- A text begins with the first byte of one that is equal to it.
+-- If two texts are equal, one begins with the first byte of the other.
 starts_alike : (b : ℕ) (bs text : List ℕ) → pointwise nat_eq (b ∷ bs) text ≡ true → starts_with nat_eq text (b ∷ []) ≡ true
 starts_alike b bs [] h = cc
 starts_alike b bs (c ∷ cs) h =
     let same : nat_eq b c ≡ true = and_left (nat_eq b c) (pointwise nat_eq bs cs) h in
     rw same refl
 
--- A key is found among those that begin with the first byte.
+-- It suffices to search the keywords that begin with the first byte.
 key_kept : (b : ℕ) (bs : List ℕ) → find (λ key. pointwise nat_eq (b ∷ bs) (key_text key)) (keys_from b) ≡ key_of (b ∷ bs)
 key_kept b bs =
     find_kept (λ key. pointwise nat_eq (b ∷ bs) (key_text key)) (λ key. starts_with nat_eq (key_text key) (b ∷ [])) all_keys
@@ -147,7 +147,7 @@ key_found text b bs among found is from by =
     let all : found ≡ find (λ key. pointwise nat_eq text (key_text key)) (keys_from b) = subst (λ (keys : List Key). found ≡ find (λ key. pointwise nat_eq text (key_text key)) keys) from by in
     all ∙ subst (λ (s : List ℕ). find (λ key. pointwise nat_eq s (key_text key)) (keys_from b) ≡ key_of s) (sym is) (key_kept b bs)
 
--- A text with a byte begins with the first byte of what it stands before.
+-- If bytes begin with a nonempty text, the text begins with their first byte.
 begins_alike : (b : ℕ) (bs text : List ℕ) → nat_le 1 (length text) ≡ true → starts_with nat_eq (b ∷ bs) text ≡ true → starts_with nat_eq text (b ∷ []) ≡ true
 begins_alike b bs [] some h = cc
 begins_alike b bs (c ∷ cs) some h =
@@ -159,7 +159,7 @@ mark_has_a_byte : (mark : Mark) → nat_le 1 (length (mark_text mark)) ≡ true
 mark_has_a_byte marks.ParenLeft = refl
 mark_has_a_byte _ = refl
 
--- A mark is found among those that begin with the first byte.
+-- It suffices to search the symbols that begin with the first byte.
 mark_kept : (b : ℕ) (bs : List ℕ) → find (λ mark. starts_with nat_eq (b ∷ bs) (mark_text mark)) (marks_from b) ≡ mark_of (b ∷ bs)
 mark_kept b bs =
     find_kept (λ mark. starts_with nat_eq (b ∷ bs) (mark_text mark)) (λ mark. starts_with nat_eq (mark_text mark) (b ∷ [])) marks_by_length

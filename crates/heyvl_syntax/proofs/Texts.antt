@@ -1,4 +1,4 @@
--- Small texts for worked rows: tokens of one byte each, one behind another from byte 0.
+-- Small texts for worked examples: tokens of one byte each, one after another from index 0 on.
 use Rattle.heyvl_places.specs.declared.spans.Span.{Span}
 use Rattle.heyvl_syntax.specs.Expressions.{Expression}
 use Rattle.heyvl_syntax.specs.Productions.{IsOne, at, extent}
@@ -38,11 +38,11 @@ b = codes "b"
 abbrev pub c : List ℕ
 c = codes "c"
 
--- A variable, the token of which begins at this byte.
+-- A variable whose token begins at the given byte.
 abbrev pub name : List ℕ → ℕ → Expression
 name x from = Expression.name x (span from (from + 1))
 
--- One token is one token, and covers its own place.
+-- A single token is spelled by itself, and its extent is its place.
 pub token : {kind : TokenKind} {s : Span} → IsOne kind (at kind s ∷ [])
 token {s = s} = (s, refl)
 

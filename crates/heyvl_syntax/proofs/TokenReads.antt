@@ -1,4 +1,4 @@
--- Tokens that are what stands at the front: words, keys, marks and numbers before bytes that don't make them longer.
+-- Identifiers, keywords, symbols and numbers are read if the bytes after them do not continue them.
 use Rattle.heyvl_syntax.proofs.FrontIs.{block_first, line_first}
 use Rattle.heyvl_syntax.proofs.Runs.{run_ends, run_stops, word_run_stops}
 use Rattle.heyvl_syntax.proofs.Starts.{digit_no_white, digit_opens_no_word, letter_opens_word, opens_word, token_begins, word_no_white}
@@ -29,18 +29,18 @@ use Rattle.std.proofs.lemmas.List.{length-append}
 use Rattle.std.specs.Char.{is_ascii_digit}
 use Rattle.std.specs.List.{list_all, prefix_len}
 
--- The token, with this text, is what stands at the front of the text and the bytes behind it.
+-- `Reads kind text rest`: `text`, followed by `rest`, is read as a token of kind `kind`.
 abbrev pub Reads : TokenKind → List ℕ → List ℕ → Type 0
 Reads kind text rest = front_of (text ++ rest) ≡ fronts.Token kind (length text)
 
--- Bytes that begin with it are split into it and what the rest is split into.
+-- Bytes that begin with a token that is read are split into it and the tokens of the rest.
 pub lexes_read : (place : ℕ) (kind : TokenKind) (text rest : List ℕ) → Reads kind text rest → (tokens : List Token) → Lexes (place + length text) rest tokens →
     Lexes place (text ++ rest) (made kind place (length text) ∷ tokens)
 lexes_read place kind text rest reads tokens lexes =
     lexes_token place (length text) kind (text ++ rest) (front_was (text ++ rest) (front_of (text ++ rest)) (fronts.Token kind (length text)) refl reads) tokens
     (subst (λ (z : List ℕ). Lexes (place + length text) z tokens) (sym (drop-append_seam text rest)) lexes)
 
--- Words and keys.
+-- Identifiers and keywords.
 no_line : (b : ℕ) (bs : List ℕ) → opens_word b ≡ true → opens_line (b ∷ bs) ≡ false
 no_line b bs o = pick (opens_line (b ∷ bs)) refl
   where
@@ -91,7 +91,7 @@ word_reads [] rest word other ends = absurd word
 word_reads (b ∷ cs) rest word other ends =
     word_front_is b cs rest (letter_opens_word b word.0) word.1 ends ∙ (rw (no_key (b ∷ cs) other, word.0) refl)
 
--- Marks that no byte behind them makes longer.
+-- Symbols that no byte after them continues.
 abbrev pub is_free : Mark → Bool
 is_free marks.ParenLeft = true
 is_free marks.ParenRight = true
@@ -126,7 +126,7 @@ pub spaced_reads : (m : Mark) (rest : List ℕ) → Reads (kinds.Mark m) (mark_t
 spaced_reads marks.ParenLeft rest = refl
 spaced_reads _ rest = refl
 
--- The first byte doesn't make a prefix longer.
+-- Texts whose first byte continues no prefix of a symbol.
 abbrev pub opens : List ℕ → Bool
 opens [] = true
 opens (b ∷ bs) = not (b == 61) && not (b == 62)
@@ -144,8 +144,7 @@ prefix_reads prefixes.Not (b ∷ bs) h = let e : nat_eq 61 b ≡ false = no_equa
 prefix_reads prefixes.Minus [] h = refl
 prefix_reads prefixes.Minus (b ∷ bs) h = let e : nat_eq 62 b ≡ false = no_greater b h in rw e refl
 
--- Numbers.
--- No letter, digit, `_` or point stands at the front.
+-- Numbers. The rest does not begin with a letter, a digit, `_` or a point.
 abbrev pub ends_number : List ℕ → Bool
 ends_number [] = true
 ends_number (b ∷ bs) = not (is_word_byte b) && not (is_point b)

@@ -1,4 +1,4 @@
--- Bytes are split, or there is a leftmost fault.
+-- All bytes have a list of tokens or a leftmost error.
 use Rattle.heyvl_syntax.proofs.FrontIs.{IsFront, front-inside, front-is}
 use Rattle.heyvl_syntax.proofs.Steps.{lexes_blank, lexes_end, lexes_token, made, stops_blank, stops_here, stops_token}
 use Rattle.heyvl_syntax.specs.internal.Fronts.{front_of}
@@ -11,7 +11,7 @@ use Rattle.heyvl_syntax.specs.declared.tokens.TokenKind.{TokenKind}
 use Rattle.std.proofs.Common.{List, [], arith, drop, inl, inr, length, suc, zero, ◌+◌, ◌<◌, ◌∷◌, ◌≤◌, ◌⊎◌, ℕ}
 use Rattle.std.proofs.lemmas.List.{length-drop}
 
--- Split into tokens, or stopped by a fault.
+-- The tokens of bytes, or their leftmost error.
 pub data Outcome (place : ℕ) (bytes : List ℕ) : Type 0 where
   split : (tokens : List Token) → Lexes place bytes tokens → Outcome place bytes
   stopped : (number : ℕ) (span : Span) → Stops place bytes number span → Outcome place bytes

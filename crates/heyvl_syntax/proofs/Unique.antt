@@ -1,4 +1,4 @@
--- Bytes are split in one way at most, up to the end or to the leftmost fault.
+-- Bytes are split in at most one way, up to their end or to the leftmost error.
 use Rattle.heyvl_places.specs.declared.spans.Span.{Span}
 use Rattle.heyvl_syntax.proofs.FrontIs.{block_first, line_first}
 use Rattle.heyvl_syntax.proofs.Longest.{same_first, token_no_white}
@@ -17,7 +17,7 @@ use Rattle.std.proofs.lemmas.List.{take-append-drop}
 use Rattle.std.specs.Char.{is_ascii_digit}
 use Rattle.std.specs.Cmp.Lexicographic.{same_text}
 
--- A mark begins neither with the first byte of a word or key nor with a digit.
+-- No symbol begins with a first byte of an identifier or a keyword, or with a digit.
 mark_no_word : (b : ℕ) → not (opens_word b) && (not (is_ascii_digit b) && not (is_white b)) ≡ true → opens_word b ≡ false
 mark_no_word b h = not_true (opens_word b) (and_left (not (opens_word b)) (not (is_ascii_digit b) && not (is_white b)) h)
 
@@ -43,7 +43,7 @@ by_first (kinds.Mark n) (kinds.Number m) text rest b cs ds f g s t = let no = ma
 by_first (kinds.Mark n) (kinds.Key m) text rest b cs ds f g s t = let yes = g.0 in let no = mark_no_word b f in absurd (cc)
 by_first (kinds.Mark n) (kinds.Mark m) text rest b cs ds f g s t = ap kinds.Mark (same_mark n m (sym s ∙ t))
 
--- A text before a rest is at most one token.
+-- A text that is followed by a given rest is at most one token.
 pub token_unique : (k j : TokenKind) (text rest : List ℕ) → IsToken k text rest → IsToken j text rest → k ≡ j
 token_unique k j text rest s t =
     let begins = token_begins k text rest s in
@@ -122,7 +122,7 @@ white_no_token (b ∷ bs) kind n w s =
 comment_no_token : (bytes : List ℕ) (n : ℕ) → IsLineComment bytes n ⊎ IsBlockComment bytes n → opens_comment bytes ≡ false → ⊥
 comment_no_token bytes n s h = let yes = comment_opens bytes n s in cc
 
--- The same part.
+-- The parts `p` and `q` are equal, and have the same length.
 pub record IsSamePart (p q : Part) (n m : ℕ) : Type 0 where
   pub part : p ≡ q
   pub len : n ≡ m
@@ -146,7 +146,7 @@ part_unique place bytes (token u) (token v) n m s t =
     let same = longest_unique bytes u.kind v.kind n m s.1 t.1 in
     record { part = ap token (token_same place u v n m same.1 s.3 t.3 same.0); len = same.0 }
 
--- A fault stands where no part does.
+-- No part begins where an error is.
 pub fault_no_part : (place : ℕ) (bytes : List ℕ) (p : Part) (number n m : ℕ) → IsFault bytes number n → IsPart place bytes p m → ⊥
 fault_no_part place bytes white number n m (inl (one, len, none)) s = none.no_white s.0
 fault_no_part place bytes comment number n m (inl (one, len, none)) s = comment_no_token bytes m s none.no_comment
@@ -174,7 +174,7 @@ fault_unique bytes number other n m (inr (inr (one, f))) (inl (two, width, g)) =
 fault_unique bytes number other n m (inr (inr (one, f))) (inr (inl (two, width, g))) = let yes = block_opens bytes g.opens in let no = f.no_comment in absurd (cc)
 fault_unique bytes number other n m (inr (inr (one, f))) (inr (inr (two, g))) = (one ∙ sym two, (longest_unique bytes f.kind g.kind n m f.longest g.longest).0)
 
--- No part and no fault stands at the end.
+-- Neither a part nor an error is at the end.
 no_part_at_end : (place : ℕ) (p : Part) (n : ℕ) → IsPart place [] p n → ⊥
 no_part_at_end place white n s = s.0
 no_part_at_end place comment n (inl s) = let h = s.opens in cc
@@ -192,7 +192,7 @@ no_fault_at_end number n (inr (inr (three, f))) =
     let all : begins.byte ∷ (begins.behind ++ drop n []) ≡ [] = subst (λ (z : List ℕ). z ++ drop n [] ≡ []) begins.same (take-append-drop n []) in
     cc
 
--- The parts are the same, and so are the tokens.
+-- The parts are unique, and so are the tokens.
 splits_unique : (place : ℕ) (bytes : List ℕ) (ps qs : List Part) → Splits place bytes ps → Splits place bytes qs → ps ≡ qs
 splits_unique place bytes [] [] s t = refl
 splits_unique place bytes [] (q ∷ qs) s t = absurd (no_part_at_end place q t.0 (subst (λ (z : List ℕ). IsPart place z q t.0) s t.1))

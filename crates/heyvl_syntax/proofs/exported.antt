@@ -1,4 +1,4 @@
--- The lemmas that crates above may cite. All other proofs are private.
+-- Lemmas for the proofs of other crates. All other proofs are private to this crate.
 pub mod Beginnings
 pub mod Digits
 pub mod FaultPlaces

@@ -1,2 +1,2 @@
--- For crates above. How large the trees of a file are.
+-- For the proofs of other crates: the size of the trees of a file.
 pub use Rattle.heyvl_syntax.proofs.FewNodes.{few_nodes}

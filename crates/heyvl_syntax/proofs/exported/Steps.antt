@@ -1,2 +1,2 @@
--- For crates above. Tokens part by part.
+-- For the proofs of other crates: tokens, part by part.
 pub use Rattle.heyvl_syntax.proofs.Steps.{made}

@@ -1,4 +1,5 @@
--- For crates above. The measures by which recursion over arms and statements ends, as the kit writes them.
+-- For the proofs of other crates: the measures of recursion over arms and statements, in the form
+-- that the kit uses.
 use Rattle.heyvl_syntax.proofs.statements.Arm.TheLaws as arm_laws
 use Rattle.heyvl_syntax.proofs.statements.Stmt.TheLaws as statement_laws
 use Rattle.heyvl_syntax.specs.declared.statements.Arm.{Arm}

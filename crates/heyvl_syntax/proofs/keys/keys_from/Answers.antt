@@ -63,7 +63,7 @@ returns-in-115 c = sym (ap keys_from c.in-115.is)
 pub returns-in-92 : goal.returns-in-92
 returns-in-92 c = sym (ap keys_from c.in-92.is)
 
--- No key begins with another byte.
+-- No keyword begins with any other byte.
 none_from : (b : ℕ) → nat_eq b 112 ≡ false → nat_eq b 99 ≡ false → nat_eq b 118 ≡ false → nat_eq b 105 ≡ false → nat_eq b 101 ≡ false → nat_eq b 119 ≡ false → nat_eq b 97 ≡ false → nat_eq b 104 ≡ false → nat_eq b 114 ≡ false → nat_eq b 116 ≡ false → nat_eq b 102 ≡ false → nat_eq b 66 ≡ false → nat_eq b 73 ≡ false → nat_eq b 85 ≡ false → nat_eq b 69 ≡ false → nat_eq b 82 ≡ false → nat_eq b 117 ≡ false → nat_eq b 115 ≡ false → nat_eq b 92 ≡ false → list_all (λ key. not (starts_with nat_eq (key_text key) (b ∷ []))) all_keys ≡ true
 none_from b n112 n99 n118 n105 n101 n119 n97 n104 n114 n116 n102 n66 n73 n85 n69 n82 n117 n115 n92 = rw (n112, n99, n118, n105, n101, n119, n97, n104, n114, n116, n102, n66, n73, n85, n69, n82, n117, n115, n92) refl
 

@@ -7,12 +7,12 @@ use Rattle.heyvl_syntax.specs.declared.stops.LexStop.{LexStop}
 use Rattle.heyvl_syntax.specs.declared.tokens.Token.{Token}
 use Rattle.std.proofs.Common.{Err, IfErr, IfOk, List, MatchResult, Ok, Result, ℕ, ◌≡◌}
 
--- What stops bytes that are split into tokens.
+-- Only lack of memory stops the lexer on bytes that have a list of tokens.
 only_memory : (bytes : List ℕ) (stop : LexStop) → IsLexStop bytes stop → (tokens : List Token) → Lexes 0 bytes tokens → IsMemory stop
 only_memory bytes (stops.Fault number span) here tokens split = lexes_no_stop 0 bytes tokens number span split here
 only_memory bytes (stops.Memory error) here tokens split = tt
 
--- What stops bytes that have a fault.
+-- Only the leftmost error and lack of memory stop the lexer on bytes with an error.
 only_fault : (bytes : List ℕ) (stop : LexStop) → IsLexStop bytes stop → (number : ℕ) (span : Span) → Stops 0 bytes number span → IsFaultOrMemory number span stop
 only_fault bytes (stops.Fault other at) here number span fault = stops_unique 0 bytes other number at span here fault
 only_fault bytes (stops.Memory error) here number span fault = tt

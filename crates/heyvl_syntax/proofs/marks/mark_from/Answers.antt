@@ -75,7 +75,7 @@ returns-in-61 c = rw (c.longer.ensures, c.longer-shorter.ensures) (sym (ap (λ (
 pub returns-in-60 : goal.returns-in-60
 returns-in-60 c = rw (c.longer-in-60.ensures, c.longer-shorter-in-60.ensures) (sym (ap (λ (b : ℕ). mark_of (b ∷ c.args.behind.now)) c.in-60.is))
 
--- No mark begins with another byte.
+-- No symbol begins with any other byte.
 none_from : (b : ℕ) → nat_eq b 40 ≡ false → nat_eq b 41 ≡ false → nat_eq b 123 ≡ false → nat_eq b 125 ≡ false → nat_eq b 91 ≡ false → nat_eq b 93 ≡ false → nat_eq b 44 ≡ false → nat_eq b 58 ≡ false → nat_eq b 59 ≡ false → nat_eq b 46 ≡ false → nat_eq b 61 ≡ false → nat_eq b 33 ≡ false → nat_eq b 60 ≡ false → nat_eq b 62 ≡ false → nat_eq b 43 ≡ false → nat_eq b 45 ≡ false → nat_eq b 42 ≡ false → nat_eq b 47 ≡ false → nat_eq b 38 ≡ false → nat_eq b 124 ≡ false → nat_eq b 126 ≡ false → nat_eq b 63 ≡ false → nat_eq b 64 ≡ false → list_all (λ mark. not (starts_with nat_eq (mark_text mark) (b ∷ []))) marks_by_length ≡ true
 none_from b n40 n41 n123 n125 n91 n93 n44 n58 n59 n46 n61 n33 n60 n62 n43 n45 n42 n47 n38 n124 n126 n63 n64 = rw (n40, n41, n123, n125, n91, n93, n44, n58, n59, n46, n61, n33, n60, n62, n43, n45, n42, n47, n38, n124, n126, n63, n64) refl
 

@@ -2,7 +2,7 @@ use Rattle.heyvl_syntax.proofs.statements.+copying.Given as goal
 use Rattle.heyvl_syntax.specs.Statements.{guarded, statement}
 use Rattle.std.proofs.Common.{map, take, ◌≡◌}
 
--- What has been copied is equal to what has been visited.
+-- The copied elements are equal to the visited ones.
 abbrev pub invariant-Arm::copy_all-loop-one : goal.invariant-Arm::copy_all-loop-one
 invariant-Arm::copy_all-loop-one l = map guarded l.copied.items ≡ map guarded (take l.one-index l.all)
 

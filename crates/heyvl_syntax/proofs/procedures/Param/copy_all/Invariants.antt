@@ -1,6 +1,6 @@
 use Rattle.heyvl_syntax.proofs.procedures.Param.copy_all.Given as goal
 use Rattle.std.proofs.Common.{take, ◌≡◌}
 
--- What has been copied is equal to what has been visited.
+-- The copied elements are equal to the visited ones.
 abbrev pub invariant-loop-one : goal.invariant-loop-one
 invariant-loop-one l = l.copied.items ≡ take l.one-index l.all
