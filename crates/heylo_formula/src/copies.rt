@@ -8,14 +8,14 @@ use crate::terms::Term;
 use std::alloc::{AllocError, Global};
 
 impl Form {
-    /// An equal tree.
+    /// Returns a copy of the form.
     pub fn copy(&self, alloc: Global) -> Result<Form, AllocError>
         ensures { IfOk result (λ form. form_of form ≡ form_of self.now) }
     {
         self.rename(alloc, 0, 0)
     }
 
-    /// An equal tree, in a box.
+    /// Returns a copy of the form, in a box.
     pub(crate) fn copy_boxed(&self, alloc: Global) -> Result<Box<Form>, AllocError>
         ensures { IfOk result (λ boxed. form_of boxed.value ≡ form_of self.now) }
     {
@@ -24,7 +24,7 @@ impl Form {
 }
 
 impl Cond {
-    /// An equal tree.
+    /// Returns a copy of the condition.
     pub fn copy(&self, alloc: Global) -> Result<Cond, AllocError>
         ensures { IfOk result (λ cond. cond_of cond ≡ cond_of self.now) }
     {
@@ -33,7 +33,7 @@ impl Cond {
 }
 
 impl Term {
-    /// An equal term.
+    /// Returns a copy of the term.
     pub fn copy(&self, alloc: Global) -> Result<Term, AllocError>
         ensures { IfOk result (λ term. term_of term ≡ term_of self.now) }
     {

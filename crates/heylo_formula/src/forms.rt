@@ -1,41 +1,43 @@
-//! Formulas and conditions.
+//! Forms and conditions.
 
 use crate::types::Ty;
 use heyvl_num::{Ext, Frac};
 use heyvl_places::Span;
 
-/// A formula of HeyLo: a tree that has a number, or infinity, as its value in each state. Variables go by number.
+/// A form of HeyLo: a tree that has a number or infinity as its value in each state. Variables are
+/// numbers.
 #[cycle(forms)]
 pub enum Form {
     Const(Ext),
     /// The value of a numeric variable.
     Var(u32),
     Sum(Box<Form>, Box<Form>),
-    /// The plain difference, of whole numbers, which may be negative.
+    /// The plain difference of integers, which may be negative.
     Diff(Box<Form>, Box<Form>),
-    /// The truncated difference: 0 where the second part is greater.
+    /// The truncated difference: 0 if the second operand is larger.
     Cut(Box<Form>, Box<Form>),
     Scale(Frac, Box<Form>),
     /// The product, with the place of its operator in the text.
     Product(Box<Form>, Box<Form>, Span),
     Min(Box<Form>, Box<Form>),
     Max(Box<Form>, Box<Form>),
-    /// Implication (Goedel's): infinity where the first part is at most the second, else the second.
+    /// Implication (Goedel's): infinity if the first operand is at most the second, otherwise the
+    /// second.
     Imply(Box<Form>, Box<Form>),
-    /// Coimplication: 0 where the first part is at least the second, else the second.
+    /// Coimplication: 0 if the first operand is at least the second, otherwise the second.
     CoImply(Box<Form>, Box<Form>),
-    /// Infinity where the part is infinity, else 0.
+    /// Infinity if the operand is infinite, otherwise 0.
     Validate(Box<Form>),
-    /// 0 where the part is 0, else infinity.
+    /// 0 if the operand is 0, otherwise infinity.
     CoValidate(Box<Form>),
-    /// Infinity where the condition holds, else 0.
+    /// Infinity if the condition holds, otherwise 0.
     Embed(Box<Cond>),
-    /// 1 where the condition holds, else 0.
+    /// 1 if the condition holds, otherwise 0.
     Iverson(Box<Cond>),
-    /// The first form where the condition holds, else the second.
+    /// The first form if the condition holds, otherwise the second.
     Select(Box<Cond>, Box<Form>, Box<Form>),
-    /// A binder: whether it is a supremum (else it is an infimum), the number that it binds, the number of the variable
-    /// whose name it bears, the type of that variable, and the body.
+    /// A binder: whether it is a supremum (otherwise it is an infimum), the variable that it binds,
+    /// the variable after which it is named, the type of the bound variable, and the body.
     Bind(bool, u32, u32, Ty, Box<Form>),
 }
 
@@ -64,7 +66,7 @@ impl Drop for Form {
     }
 }
 
-/// A condition: a tree that holds in a state, or doesn't.
+/// A condition: a tree that is true or false in each state.
 #[cycle(forms)]
 pub enum Cond {
     Const(bool),
@@ -73,13 +75,13 @@ pub enum Cond {
     Not(Box<Cond>),
     And(Box<Cond>, Box<Cond>),
     Or(Box<Cond>, Box<Cond>),
-    /// Both hold, or neither does.
+    /// Both conditions hold, or neither does.
     Same(Box<Cond>, Box<Cond>),
     Le(Box<Form>, Box<Form>),
     Lt(Box<Form>, Box<Form>),
-    /// Equal numbers.
+    /// The two numbers are equal.
     EqNum(Box<Form>, Box<Form>),
-    /// The second condition where the first holds, else the third.
+    /// The second condition if the first holds, otherwise the third.
     Ite(Box<Cond>, Box<Cond>, Box<Cond>),
 }
 

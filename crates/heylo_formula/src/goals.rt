@@ -1,4 +1,4 @@
-//! Goals: inequalities between two formulas without binders.
+//! Goals, which are verification conditions: inequalities between two forms without binders.
 
 ghost use Rattle.heylo_formula.specs.GoalOrder.{kind_rank, loop_of, stands_before};
 ghost use Rattle.std.specs.Prelude.{◌≡◌};
@@ -7,22 +7,24 @@ use crate::forms::Form;
 use crate::types::Ty;
 use heyvl_places::Name;
 
-/// An inequality that is to hold for all values of the variables. An upper goal asks that the stated form is at least the
-/// found one, a lower goal that it is at most the found one. Both forms are free of binders.
+/// An inequality that is to hold for all values of the variables. An upper goal asks that the
+/// stated bound is at least the computed form, a lower goal that it is at most the computed form.
+/// Neither form has a binder.
 #[derive(Drop)]
 pub struct Goal {
     pub upper: bool,
     pub stated: Form,
     pub found: Form,
-    /// The type of each variable, by number.
+    /// The type of each variable.
     pub vars: Vec<Ty>,
-    /// The name of each variable, by number.
+    /// The name of each variable.
     pub names: Vec<Name>,
-    /// How many of the first variables are the procedure's or fresh ones of its encoding; those after them were binders.
+    /// The number of variables that belong to the procedure or to its encoding. They come first;
+    /// the others were binders.
     pub own: u32,
 }
 
-/// Which goal of a procedure. Loops are numbered from 1.
+/// The name of a goal of a procedure. Loops are numbered from 1.
 #[derive(Clone, Copy, Debug, PartialEq, Eq, Hash)]
 pub enum GoalId {
     Main,
@@ -33,7 +35,7 @@ pub enum GoalId {
 }
 
 impl GoalId {
-    /// The place of the goal's kind among the goals of a procedure.
+    /// Returns the rank of the kind of goal in the order of a procedure's goals.
     fn kind_rank(self) -> u8
         ensures { result ≡ kind_rank self }
     {
@@ -46,7 +48,7 @@ impl GoalId {
         }
     }
 
-    /// The number of the goal's loop, or 0 where it has none.
+    /// Returns the number of the goal's loop, or 0 if it has none.
     pub fn loop_number(self) -> u32
         ensures { result ≡ loop_of self }
     {
@@ -57,7 +59,7 @@ impl GoalId {
         }
     }
 
-    /// Whether this goal of a procedure stands before the other one.
+    /// Returns whether the goal precedes `other` in the order of a procedure's goals.
     pub fn stands_before(self, other: GoalId) -> bool
         ensures { result ≡ stands_before self other }
     {
@@ -66,7 +68,7 @@ impl GoalId {
     }
 }
 
-/// What making a goal gives: the goal, or the limit of depth or of nodes that its form passed.
+/// The result of making a goal: the goal, or the limit that its form exceeds, of depth or of nodes.
 #[derive(Drop)]
 pub enum Made {
     Goal(Goal),

@@ -1,5 +1,5 @@
-//! The laws of formulas. Each function does nothing: its contract is the law, and the definitions are what the crates above
-//! reason about.
+//! Laws of forms. Each function does nothing: its contract is the law. The definitions are the ones
+//! that the crates above reason about.
 
 ghost use Rattle.heylo_formula.specs.Laws as law;
 ghost use Rattle.heylo_formula.specs.ExtremaLaws as typed;
@@ -12,7 +12,8 @@ ghost use Rattle.heylo_formula.specs.OperatorLaws as operator;
 ghost use Rattle.heylo_formula.specs.GoalLaws as goal;
 ghost use Rattle.heylo_formula.specs.MeaningLaws as meaning;
 
-/// A value depends on the free variables alone, and on choices only where there is a binder.
+/// States that a value depends only on the free variables, and on choices only if there is a
+/// binder.
 pub fn what_values_depend_on()
     ensures variables { law.ValuesIgnoreOthers }
     ensures variables_of_truth { law.TruthIgnoresOthers }
@@ -20,35 +21,35 @@ pub fn what_values_depend_on()
     ensures choices_of_truth { law.TruthIgnoresChoices }
 {}
 
-/// A renamed formula has its value in the renamed state.
+/// States that a renamed form has the value of the form in the renamed state.
 pub fn renaming_renames_the_state()
     ensures value { law.RenamingKeepsValues }
     ensures truth { law.RenamingKeepsTruth }
 {}
 
-/// A substitution is a change of state, for all choices of the binders; a binder that would capture takes the least unused
-/// number.
+/// States that substitution is a change of the state, for all choices of the binders, and that a
+/// binder that would capture takes the least unused variable.
 pub fn substitution_changes_the_state()
     ensures value { law.SubstitutionChangesState }
     ensures truth { law.SubstitutionChangesStateOfTruth }
     ensures fresh { law.FreshIsLeast }
 {}
 
-/// What the types of forms say of their values.
+/// States which values are finite or nonnegative by their types.
 pub fn types_bound_values()
     ensures finite { typed.FiniteTypesAreFinite }
     ensures nonnegative { typed.FormulasAreNonnegative }
     ensures plain { typed.FiniteTermsArePlain }
 {}
 
-/// A substitution of a term that fits its variable keeps forms and conditions well typed.
+/// States that substituting a term that fits its variable keeps forms and conditions well typed.
 pub fn substitution_keeps_types()
     ensures types { typed.SubstitutionKeepsTypes }
     ensures formulas { typed.SubstitutionKeepsFormulas }
     ensures conditions { typed.SubstitutionKeepsConditions }
 {}
 
-/// What a formula with binders means is bounded by what its value is for each choice.
+/// States that the meaning of a form with binders is bounded by its value under each choice.
 pub fn bounds_hold_by_choices()
     ensures one { typed.FormsMeanOneValue }
     ensures binder_free { typed.BinderFreeFormsMeanTheirValues }
@@ -56,14 +57,14 @@ pub fn bounds_hold_by_choices()
     ensures unbound { typed.BinderFreeFormsAreDirected }
 {}
 
-/// A substitution of a plain term keeps where binders stand.
+/// States that substituting a plain term keeps binders, and the operators above them.
 pub fn substitution_keeps_binders()
     ensures binders { typed.SubstitutionKeepsBinders }
     ensures directions { typed.SubstitutionKeepsDirections }
 {}
 
-/// A formula whose variables are numbered anew has the value and the type that it has without the first variables; its
-/// binders, nodes and depth stay, and each of its free variables is that many further on.
+/// States that a shifted form has the value and the type of the form without the first variables,
+/// that its binders, nodes and depth are those of the form, and which variables are free in it.
 pub fn shifting_moves_the_state()
     ensures value { shift.ShiftingMovesTheState }
     ensures truth { shift.ShiftingMovesTheStateOfTruth }
@@ -80,7 +81,8 @@ pub fn shifting_moves_the_state()
     ensures extent_of_conditions { shift.ExtentOfConditions }
 {}
 
-/// Forms of Int and UInt have whole values; what fits a type has no binder and a value of that type.
+/// States that forms of Int and UInt have integer values, and that a term that fits a type has no
+/// binder and a value of the type.
 pub fn terms_have_values_of_their_types()
     ensures whole { term.WholeTypesAreWhole }
     ensures typed { term.TermsHaveValuesOfTheirTypes }
@@ -92,7 +94,7 @@ pub fn terms_have_values_of_their_types()
     ensures joins { term.JoinsOfUnsigned }
 {}
 
-/// The value and the type of a form depend on its free variables alone.
+/// States that the value and the type of a form depend only on its free variables.
 pub fn what_free_variables_decide()
     ensures value { agreement.ValuesDependOnFree }
     ensures truth { agreement.TruthDependsOnFree }
@@ -100,7 +102,7 @@ pub fn what_free_variables_decide()
     ensures conditions { agreement.ConditionsDependOnFree }
 {}
 
-/// Typed lists of values are typed environments, and their changes are changes of these.
+/// States the relation between typed lists of values, their environments, and changes of variables.
 pub fn lists_are_environments()
     ensures length { state.TypedListsHaveAllValues }
     ensures typed { state.TypedListsAreTypedEnvironments }
@@ -118,7 +120,7 @@ pub fn lists_are_environments()
     ensures later { state.LaterChangesCount }
 {}
 
-/// What a renaming keeps beside the value.
+/// States what a renaming keeps beside the value.
 pub fn what_renaming_keeps()
     ensures types { put.RenamingKeepsTypes }
     ensures conditions { put.RenamingKeepsConditions }
@@ -128,7 +130,7 @@ pub fn what_renaming_keeps()
     ensures variables { put.FreeInRenamed }
 {}
 
-/// Where the free variables of a substitution's result come from, and how large the result is.
+/// States which variables are free in the result of a substitution, and how large the result is.
 pub fn what_substitution_gives()
     ensures variables { put.FreeInSubstitution }
     ensures over { put.SubstitutionIsOver }
@@ -141,7 +143,8 @@ pub fn what_substitution_gives()
     ensures no_names { put.NoBinderNoName }
 {}
 
-/// Validate and covalidate keep the order and the sign, and plain differences keep whole numbers.
+/// States that validate and covalidate are monotone and nonnegative, and that plain differences
+/// keep integers.
 pub fn growth_of_validates()
     ensures validate { operator.ValidateGrows }
     ensures covalidate { operator.CovalidateGrows }
@@ -149,15 +152,16 @@ pub fn growth_of_validates()
     ensures whole { operator.WholeDifferences }
 {}
 
-/// A goal speaks of the states of its own variables, and of no choices.
+/// States that a goal depends only on its own variables, and not on choices.
 pub fn what_goals_speak_of()
     ensures variables { goal.GoalsReadTheirVariables }
     ensures environments { goal.GoalsHoldInTypedEnvironments }
     ensures choices { goal.GoalsIgnoreChoices }
 {}
 
-/// Where each binder is over Bool a form has a meaning with suprema and infima: it is the best of finitely many values. Of
-/// other binders no meaning is claimed, since no fraction may be the best.
+/// States that a form whose binders are over Bool has a meaning with suprema and infima: the best
+/// of finitely many values. For other binders no meaning is claimed, since no fraction may be the
+/// best.
 pub fn finite_choices_have_meanings()
     ensures meanings { meaning.FiniteChoicesHaveMeanings }
 {}

@@ -1,4 +1,6 @@
-//! Formulas of HeyLo with binders, their conditions and terms, substitution, and goals.
+//! Forms of HeyLo with binders, their conditions and terms, substitution, and goals.
+//!
+//! `AllocError` means that memory ran out.
 #![tactic(auto)]
 
 mod copies;

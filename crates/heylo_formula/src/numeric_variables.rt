@@ -7,7 +7,7 @@ ghost use Rattle.std.specs.Prelude.{◌≡◌};
 use crate::forms::Form;
 
 impl Form {
-    /// Whether a numeric variable occurs outside conditions.
+    /// Returns whether a numeric variable occurs outside conditions.
     pub fn has_variable(&self) -> bool
         ensures { result ≡ has_variable (form_of self.now) }
     {

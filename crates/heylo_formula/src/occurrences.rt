@@ -1,14 +1,15 @@
-//! Where variables occur.
+//! Occurrences of variables.
 
 ghost use Rattle.std.specs.Prelude.{◌≡◌};
 ghost use Rattle.heylo_formula.specs.PlainTrees.{form_of, cond_of, term_of};
-ghost use Rattle.heylo_formula.specs.Variables.{is_free, is_free_in, occurs, occurs_in, occurs_in_term};
+ghost use Rattle.heylo_formula.specs.Variables.{is_free, is_free_in, occurs, occurs_in};
+ghost use Rattle.heylo_formula.specs.Variables.{occurs_in_term};
 
 use crate::forms::{Cond, Form};
 use crate::terms::Term;
 
 impl Form {
-    /// Whether the variable occurs outside every binder of its number.
+    /// Returns whether the variable occurs outside of every binder of it.
     #[cycle(frees)]
     pub fn free(&self, var: u32) -> bool
         ensures { result ≡ is_free var (form_of self.now) }
@@ -33,7 +34,7 @@ impl Form {
 }
 
 impl Cond {
-    /// Whether the variable occurs outside every binder of its number.
+    /// Returns whether the variable occurs outside of every binder of it.
     #[cycle(frees)]
     pub fn free(&self, var: u32) -> bool
         ensures { result ≡ is_free_in var (cond_of self.now) }
@@ -50,7 +51,7 @@ impl Cond {
 }
 
 impl Form {
-    /// Whether the number occurs at all: as a variable, or as what a binder binds.
+    /// Returns whether the number occurs, as a variable or as the variable of a binder.
     #[cycle(occurring)]
     pub fn occurs(&self, var: u32) -> bool
         ensures { result ≡ occurs var (form_of self.now) }
@@ -75,7 +76,7 @@ impl Form {
 }
 
 impl Cond {
-    /// Whether the number occurs at all: as a variable, or as what a binder binds.
+    /// Returns whether the number occurs, as a variable or as the variable of a binder.
     #[cycle(occurring)]
     pub fn occurs(&self, var: u32) -> bool
         ensures { result ≡ occurs_in var (cond_of self.now) }
@@ -92,7 +93,7 @@ impl Cond {
 }
 
 impl Term {
-    /// Whether the number occurs at all: as a variable, or as what a binder binds.
+    /// Returns whether the number occurs, as a variable or as the variable of a binder.
     pub fn occurs(&self, var: u32) -> bool
         ensures { result ≡ occurs_in_term var (term_of self.now) }
     {

@@ -1,4 +1,4 @@
-//! Whether a form has a binder.
+//! The test for binders.
 
 ghost use Rattle.heylo_formula.specs.Binders.{has_binder, has_binder_in};
 ghost use Rattle.heylo_formula.specs.PlainTrees.{cond_of, form_of};
@@ -7,7 +7,7 @@ ghost use Rattle.std.specs.Prelude.{◌≡◌};
 use crate::forms::{Cond, Form};
 
 impl Form {
-    /// Whether a binder stands anywhere in the form.
+    /// Returns whether the form contains a binder.
     #[cycle(quantifiers)]
     pub fn has_binder(&self) -> bool
         ensures { result ≡ has_binder (form_of self.now) }
@@ -31,7 +31,7 @@ impl Form {
 }
 
 impl Cond {
-    /// Whether a binder stands anywhere in the condition.
+    /// Returns whether the condition contains a binder.
     #[cycle(quantifiers)]
     pub fn has_binder(&self) -> bool
         ensures { result ≡ has_binder_in (cond_of self.now) }

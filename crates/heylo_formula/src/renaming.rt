@@ -1,4 +1,5 @@
-//! Renaming of variables. Boxes are made in calls of their own, so that each level of a deep tree takes little stack.
+//! Renaming of variables. Boxes are made in separate calls, so that each level of a deep tree needs
+//! little stack.
 
 ghost use Rattle.std.specs.Prelude.{◌≡◌, ◌==◌, IfOk, if◌then◌else◌};
 ghost use Rattle.heylo_formula.specs.PlainTrees.{form_of, cond_of};
@@ -8,7 +9,8 @@ use crate::forms::{Cond, Form};
 use std::alloc::{AllocError, Global};
 
 impl Form {
-    /// The tree with another number, which doesn't occur, for each free occurrence of a variable.
+    /// Returns the form with `to` in place of each free occurrence of `from`. If `to` does not
+    /// occur in the form, its value is that in the state in which `from` has the value of `to`.
     #[cycle(renaming)]
     pub fn rename(&self, alloc: Global, from: u32, to: u32) -> Result<Form, AllocError>
         ensures { IfOk result (λ form. form_of form ≡ renamed from to (form_of self.now)) }
@@ -68,7 +70,7 @@ impl Form {
         }
     }
 
-    /// The renamed tree, in a box.
+    /// Returns the renamed form, in a box.
     #[cycle(renaming)]
     #[inline(never)]
     pub(crate) fn rename_boxed(
@@ -82,7 +84,7 @@ impl Form {
         Ok(Box::new(alloc, self.rename(alloc, from, to)?)?)
     }
 
-    /// Both renamed trees, each in a box.
+    /// Returns both renamed forms, each in a box.
     #[cycle(renaming)]
     #[inline(never)]
     fn rename_both(
@@ -92,7 +94,8 @@ impl Form {
         from: u32,
         to: u32,
     ) -> Result<(Box<Form>, Box<Form>), AllocError>
-        ensures { IfOk result (λ both. (form_of both.0.value ≡ renamed from to (form_of left.now)) × (form_of both.1.value ≡ renamed from to (form_of right.now))) }
+        ensures { IfOk result (λ both. (form_of both.0.value ≡ renamed from to (form_of left.now))
+            × (form_of both.1.value ≡ renamed from to (form_of right.now))) }
     {
         let first = left.rename_boxed(alloc, from, to)?;
         Ok((first, right.rename_boxed(alloc, from, to)?))
@@ -100,7 +103,7 @@ impl Form {
 }
 
 impl Cond {
-    /// The tree with another number, which doesn't occur, for each free occurrence of a variable.
+    /// Returns the condition with `to` in place of each free occurrence of `from`.
     #[cycle(renaming)]
     pub fn rename(&self, alloc: Global, from: u32, to: u32) -> Result<Cond, AllocError>
         ensures { IfOk result (λ cond. cond_of cond ≡ renamed_in from to (cond_of self.now)) }
@@ -141,16 +144,17 @@ impl Cond {
         }
     }
 
-    /// The renamed tree, in a box.
+    /// Returns the renamed condition, in a box.
     #[cycle(renaming)]
     #[inline(never)]
     fn rename_boxed(&self, alloc: Global, from: u32, to: u32) -> Result<Box<Cond>, AllocError>
-        ensures { IfOk result (λ boxed. cond_of boxed.value ≡ renamed_in from to (cond_of self.now)) }
+        ensures { IfOk result (λ boxed. cond_of boxed.value
+            ≡ renamed_in from to (cond_of self.now)) }
     {
         Ok(Box::new(alloc, self.rename(alloc, from, to)?)?)
     }
 
-    /// Both renamed trees, each in a box.
+    /// Returns both renamed conditions, each in a box.
     #[cycle(renaming)]
     #[inline(never)]
     fn rename_both(
@@ -160,15 +164,17 @@ impl Cond {
         from: u32,
         to: u32,
     ) -> Result<(Box<Cond>, Box<Cond>), AllocError>
-        ensures { IfOk result (λ both. (cond_of both.0.value ≡ renamed_in from to (cond_of left.now)) × (cond_of both.1.value ≡ renamed_in from to (cond_of right.now))) }
+        ensures { IfOk result (λ both.
+            (cond_of both.0.value ≡ renamed_in from to (cond_of left.now))
+            × (cond_of both.1.value ≡ renamed_in from to (cond_of right.now))) }
     {
         let first = left.rename_boxed(alloc, from, to)?;
         Ok((first, right.rename_boxed(alloc, from, to)?))
     }
 }
 
-/// The variable that is renamed in the body of a binder: where the binder binds it, it isn't free there, and another is renamed
-/// to itself.
+/// Returns the variable to rename in the body of a binder of `bound`. If it is `from`, nothing is
+/// free to rename, and `to` is renamed to itself.
 fn under(bound: u32, from: u32, to: u32) -> u32
     ensures { result ≡ (if from == bound then to else from) }
 {

@@ -1,4 +1,5 @@
-//! Variables numbered anew, all at once. Boxes are made in calls of their own, so that each level of a deep tree takes little stack.
+//! Shifted forms. Boxes are made in separate calls, so that each level of a deep tree needs little
+//! stack.
 
 ghost use Rattle.std.specs.Prelude.{◌≡◌, ◌+◌, ◌≤◌, ◌^◌, IfOk};
 ghost use Rattle.heylo_formula.specs.PlainTrees.{form_of, cond_of};
@@ -8,8 +9,8 @@ use crate::forms::{Cond, Form};
 use std::alloc::{AllocError, Global};
 
 impl Form {
-    /// The form with a number added to the number of each variable, those that binders bind included, so that no binder
-    /// captures. The name that a binder bears stays.
+    /// Returns the form with `by` added to the number of each variable, bound variables included,
+    /// so that no binder captures. The names of binders do not change.
     #[cycle(shifting)]
     pub fn shifted(&self, alloc: Global, by: u32) -> Result<Form, AllocError>
         requires { by + extent (form_of self.now) ≤ 2 ^ 32 }
@@ -70,7 +71,7 @@ impl Form {
         }
     }
 
-    /// The form that `shifted` gives, in a box.
+    /// Returns the shifted form, in a box.
     #[cycle(shifting)]
     #[inline(never)]
     fn shifted_boxed(&self, alloc: Global, by: u32) -> Result<Box<Form>, AllocError>
@@ -80,7 +81,7 @@ impl Form {
         Ok(Box::new(alloc, self.shifted(alloc, by)?)?)
     }
 
-    /// The forms that `shifted` gives for both, each in a box.
+    /// Returns both shifted forms, each in a box.
     #[cycle(shifting)]
     #[inline(never)]
     fn shifted_both(
@@ -91,7 +92,8 @@ impl Form {
     ) -> Result<(Box<Form>, Box<Form>), AllocError>
         requires left_fits { by + extent (form_of left.now) ≤ 2 ^ 32 }
         requires right_fits { by + extent (form_of right.now) ≤ 2 ^ 32 }
-        ensures { IfOk result (λ both. (form_of both.0.value ≡ shifted by (form_of left.now)) × (form_of both.1.value ≡ shifted by (form_of right.now))) }
+        ensures { IfOk result (λ both. (form_of both.0.value ≡ shifted by (form_of left.now))
+            × (form_of both.1.value ≡ shifted by (form_of right.now))) }
     {
         let first = left.shifted_boxed(alloc, by)?;
         Ok((first, right.shifted_boxed(alloc, by)?))
@@ -99,7 +101,8 @@ impl Form {
 }
 
 impl Cond {
-    /// The condition with a number added to the number of each variable, by the rules for forms.
+    /// Returns the condition with `by` added to the number of each variable, bound variables
+    /// included.
     #[cycle(shifting)]
     pub fn shifted(&self, alloc: Global, by: u32) -> Result<Cond, AllocError>
         requires { by + extent_in (cond_of self.now) ≤ 2 ^ 32 }
@@ -141,7 +144,7 @@ impl Cond {
         }
     }
 
-    /// The condition that `shifted` gives, in a box.
+    /// Returns the shifted condition, in a box.
     #[cycle(shifting)]
     #[inline(never)]
     fn shifted_boxed(&self, alloc: Global, by: u32) -> Result<Box<Cond>, AllocError>
@@ -151,7 +154,7 @@ impl Cond {
         Ok(Box::new(alloc, self.shifted(alloc, by)?)?)
     }
 
-    /// The conditions that `shifted` gives for both, each in a box.
+    /// Returns both shifted conditions, each in a box.
     #[cycle(shifting)]
     #[inline(never)]
     fn shifted_both(
@@ -162,7 +165,8 @@ impl Cond {
     ) -> Result<(Box<Cond>, Box<Cond>), AllocError>
         requires left_fits { by + extent_in (cond_of left.now) ≤ 2 ^ 32 }
         requires right_fits { by + extent_in (cond_of right.now) ≤ 2 ^ 32 }
-        ensures { IfOk result (λ both. (cond_of both.0.value ≡ shifted_in by (cond_of left.now)) × (cond_of both.1.value ≡ shifted_in by (cond_of right.now))) }
+        ensures { IfOk result (λ both. (cond_of both.0.value ≡ shifted_in by (cond_of left.now))
+            × (cond_of both.1.value ≡ shifted_in by (cond_of right.now))) }
     {
         let first = left.shifted_boxed(alloc, by)?;
         Ok((first, right.shifted_boxed(alloc, by)?))

@@ -1,4 +1,4 @@
-//! How large formulas are. The counts stand still at 2^63.
+//! The sizes of forms, conditions and terms. No count exceeds 2^63.
 
 ghost use Rattle.std.specs.Prelude.{◌≡◌, ◌+◌, ◌^◌, min};
 ghost use Rattle.heylo_formula.specs.PlainTrees.{form_of, cond_of, term_of};
@@ -10,7 +10,7 @@ use crate::terms::Term;
 const MOST: u64 = 1 << 63;
 
 impl Form {
-    /// The number of nodes, those of conditions included; at most 2^63.
+    /// Returns the number of nodes, those of conditions included, or 2^63 if it is larger.
     #[cycle(counting)]
     pub fn nodes(&self) -> u64
         ensures { result ≡ min (2 ^ 63) (nodes (form_of self.now)) }
@@ -36,7 +36,7 @@ impl Form {
 }
 
 impl Cond {
-    /// The number of nodes, those of formulas included; at most 2^63.
+    /// Returns the number of nodes, those of forms included, or 2^63 if it is larger.
     #[cycle(counting)]
     pub fn nodes(&self) -> u64
         ensures { result ≡ min (2 ^ 63) (nodes_in (cond_of self.now)) }
@@ -58,7 +58,8 @@ impl Cond {
 }
 
 impl Form {
-    /// The number of nodes on the longest way down, where a leaf has depth 1; at most 2^63.
+    /// Returns the number of nodes on a longest path from the root to a leaf, or 2^63 if it is
+    /// larger. A leaf has depth 1.
     #[cycle(descending)]
     pub fn depth(&self) -> u64
         ensures { result ≡ min (2 ^ 63) (depth (form_of self.now)) }
@@ -84,7 +85,8 @@ impl Form {
 }
 
 impl Cond {
-    /// The number of nodes on the longest way down, where a leaf has depth 1; at most 2^63.
+    /// Returns the number of nodes on a longest path from the root to a leaf, or 2^63 if it is
+    /// larger. A leaf has depth 1.
     #[cycle(descending)]
     pub fn depth(&self) -> u64
         ensures { result ≡ min (2 ^ 63) (depth_in (cond_of self.now)) }
@@ -100,7 +102,7 @@ impl Cond {
 }
 
 impl Term {
-    /// The number of nodes; at most 2^63.
+    /// Returns the number of nodes, or 2^63 if it is larger.
     pub fn nodes(&self) -> u64
         ensures { result ≡ min (2 ^ 63) (nodes_in_term (term_of self.now)) }
     {
@@ -111,16 +113,17 @@ impl Term {
     }
 }
 
-/// One more, at most 2^63.
+/// Returns `count` + 1, or 2^63 if it is larger.
 pub fn above(count: u64) -> u64
     ensures { (m : _) → count ≡ min (2 ^ 63) m → result ≡ min (2 ^ 63) (1 + m) }
 {
     if count >= MOST { MOST } else { count + 1 }
 }
 
-/// Both together, at most 2^63.
+/// Returns `left` + `right`, or 2^63 if it is larger.
 pub fn both(left: u64, right: u64) -> u64
-    ensures { (m : _) (n : _) → left ≡ min (2 ^ 63) m → right ≡ min (2 ^ 63) n → result ≡ min (2 ^ 63) (m + n) }
+    ensures { (m : _) (n : _) → left ≡ min (2 ^ 63) m → right ≡ min (2 ^ 63) n
+        → result ≡ min (2 ^ 63) (m + n) }
 {
     if left >= MOST || right >= MOST || left + right >= MOST {
         MOST

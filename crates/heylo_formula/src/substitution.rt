@@ -1,5 +1,5 @@
-//! Substitution for a variable, which renames a binder that would capture. Boxes are made in calls of their own, so that each
-//! level of a deep tree takes little stack.
+//! Capture-avoiding substitution for a variable. Boxes are made in separate calls, so that each
+//! level of a deep tree needs little stack.
 
 ghost use Rattle.std.specs.Prelude.{◌≡◌, ◌+◌, ◌<◌, ◌^◌, IfOk, cond, ◌==◌, ◌||◌, ◌&&◌};
 ghost use Rattle.heylo_formula.specs.Variables.{is_free, occurs, occurs_in_term};
@@ -19,24 +19,34 @@ use heyvl_num::Ext;
 use std::alloc::{AllocError, Global};
 
 impl Form {
-    /// The form with the term for each free occurrence of a variable. A binder of that variable is left as it is. A binder
-    /// that would capture a variable of the term takes the least number from 1,048,576 on that occurs neither in its body
-    /// nor in the term. A plain term changes the value as a change of the state does.
+    /// Returns the form with the term `with` in place of each free occurrence of `var`.
+    ///
+    /// A binder of `var` is kept as it is. A binder that would capture a variable of the term takes
+    /// the least number from 1,048,576 on that occurs neither in its body nor in the term. If the
+    /// term is plain, the value of the result is that of the form in the state in which `var` has
+    /// the value of the term.
     pub fn subst(&self, alloc: Global, var: u32, with: &Term) -> Result<Form, AllocError>
         requires { nodes (form_of self.now) + nodes_in_term (term_of with.now) < 2 ^ 31 }
-        ensures tree { IfOk result (λ form. form_of form ≡ subst var (term_of with.now) (form_of self.now)) }
-        ensures value { IfOk result (λ form. IsPlain (term_of with.now) → (s : Env) (c : Choices) → value (form_of form) s c ≡ value (form_of self.now) (put var (term_value (term_of with.now) s) s) c) }
+        ensures tree { IfOk result
+            (λ form. form_of form ≡ subst var (term_of with.now) (form_of self.now)) }
+        ensures value { IfOk result (λ form. IsPlain (term_of with.now) → (s : Env) (c : Choices)
+            → value (form_of form) s c
+            ≡ value (form_of self.now) (put var (term_value (term_of with.now) s) s) c) }
     {
         self.with_term(alloc, var, with)
     }
 }
 
 impl Cond {
-    /// The condition with the term for each free occurrence of a variable, by the rules for forms.
+    /// Returns the condition with the term `with` in place of each free occurrence of `var`, by the
+    /// rules of `Form::subst`.
     pub fn subst(&self, alloc: Global, var: u32, with: &Term) -> Result<Cond, AllocError>
         requires { nodes_in (cond_of self.now) + nodes_in_term (term_of with.now) < 2 ^ 31 }
-        ensures tree { IfOk result (λ c. cond_of c ≡ subst_in var (term_of with.now) (cond_of self.now)) }
-        ensures truth { IfOk result (λ g. IsPlain (term_of with.now) → (s : Env) (c : Choices) → holds (cond_of g) s c ≡ holds (cond_of self.now) (put var (term_value (term_of with.now) s) s) c) }
+        ensures tree { IfOk result
+            (λ c. cond_of c ≡ subst_in var (term_of with.now) (cond_of self.now)) }
+        ensures truth { IfOk result (λ g. IsPlain (term_of with.now) → (s : Env) (c : Choices)
+            → holds (cond_of g) s c
+            ≡ holds (cond_of self.now) (put var (term_value (term_of with.now) s) s) c) }
     {
         self.with_term(alloc, var, with)
     }
@@ -46,7 +56,8 @@ impl Form {
     #[cycle(putting)]
     fn with_term(&self, alloc: Global, var: u32, with: &Term) -> Result<Form, AllocError>
         requires { nodes (form_of self.now) + nodes_in_term (term_of with.now) < 2 ^ 31 }
-        ensures { IfOk result (λ form. form_of form ≡ subst var (term_of with.now) (form_of self.now)) }
+        ensures { IfOk result (λ form. form_of form
+            ≡ subst var (term_of with.now) (form_of self.now)) }
     {
         match self {
             Form::Const(v) => Ok(Form::Const(*v)),
@@ -114,17 +125,18 @@ impl Form {
         }
     }
 
-    /// The form that `with_term` gives, in a box.
+    /// Returns the result of `with_term`, in a box.
     #[cycle(putting)]
     #[inline(never)]
     fn with_term_boxed(&self, alloc: Global, var: u32, with: &Term) -> Result<Box<Form>, AllocError>
         requires { nodes (form_of self.now) + nodes_in_term (term_of with.now) < 2 ^ 31 }
-        ensures { IfOk result (λ boxed. form_of boxed.value ≡ subst var (term_of with.now) (form_of self.now)) }
+        ensures { IfOk result (λ boxed. form_of boxed.value
+            ≡ subst var (term_of with.now) (form_of self.now)) }
     {
         Ok(Box::new(alloc, self.with_term(alloc, var, with)?)?)
     }
 
-    /// The forms that `with_term` gives for both, each in a box.
+    /// Returns the results of `with_term` for both forms, each in a box.
     #[cycle(putting)]
     #[inline(never)]
     fn with_term_both(
@@ -134,8 +146,11 @@ impl Form {
         var: u32,
         with: &Term,
     ) -> Result<(Box<Form>, Box<Form>), AllocError>
-        requires { nodes (form_of left.now) + nodes (form_of right.now) + nodes_in_term (term_of with.now) < 2 ^ 31 }
-        ensures { IfOk result (λ both. (form_of both.0.value ≡ subst var (term_of with.now) (form_of left.now)) × (form_of both.1.value ≡ subst var (term_of with.now) (form_of right.now))) }
+        requires { nodes (form_of left.now) + nodes (form_of right.now)
+            + nodes_in_term (term_of with.now) < 2 ^ 31 }
+        ensures { IfOk result (λ both.
+            (form_of both.0.value ≡ subst var (term_of with.now) (form_of left.now))
+            × (form_of both.1.value ≡ subst var (term_of with.now) (form_of right.now))) }
     {
         let first = left.with_term_boxed(alloc, var, with)?;
         Ok((first, right.with_term_boxed(alloc, var, with)?))
@@ -146,7 +161,8 @@ impl Cond {
     #[cycle(putting)]
     fn with_term(&self, alloc: Global, var: u32, with: &Term) -> Result<Cond, AllocError>
         requires { nodes_in (cond_of self.now) + nodes_in_term (term_of with.now) < 2 ^ 31 }
-        ensures { IfOk result (λ cond. cond_of cond ≡ subst_in var (term_of with.now) (cond_of self.now)) }
+        ensures { IfOk result (λ cond. cond_of cond
+            ≡ subst_in var (term_of with.now) (cond_of self.now)) }
     {
         match self {
             Cond::Const(b) => Ok(Cond::Const(*b)),
@@ -184,17 +200,18 @@ impl Cond {
         }
     }
 
-    /// The condition that `with_term` gives, in a box.
+    /// Returns the result of `with_term`, in a box.
     #[cycle(putting)]
     #[inline(never)]
     fn with_term_boxed(&self, alloc: Global, var: u32, with: &Term) -> Result<Box<Cond>, AllocError>
         requires { nodes_in (cond_of self.now) + nodes_in_term (term_of with.now) < 2 ^ 31 }
-        ensures { IfOk result (λ boxed. cond_of boxed.value ≡ subst_in var (term_of with.now) (cond_of self.now)) }
+        ensures { IfOk result (λ boxed. cond_of boxed.value
+            ≡ subst_in var (term_of with.now) (cond_of self.now)) }
     {
         Ok(Box::new(alloc, self.with_term(alloc, var, with)?)?)
     }
 
-    /// The conditions that `with_term` gives for both, each in a box.
+    /// Returns the results of `with_term` for both conditions, each in a box.
     #[cycle(putting)]
     #[inline(never)]
     fn with_term_both(
@@ -204,15 +221,18 @@ impl Cond {
         var: u32,
         with: &Term,
     ) -> Result<(Box<Cond>, Box<Cond>), AllocError>
-        requires { nodes_in (cond_of left.now) + nodes_in (cond_of right.now) + nodes_in_term (term_of with.now) < 2 ^ 31 }
-        ensures { IfOk result (λ both. (cond_of both.0.value ≡ subst_in var (term_of with.now) (cond_of left.now)) × (cond_of both.1.value ≡ subst_in var (term_of with.now) (cond_of right.now))) }
+        requires { nodes_in (cond_of left.now) + nodes_in (cond_of right.now)
+            + nodes_in_term (term_of with.now) < 2 ^ 31 }
+        ensures { IfOk result (λ both.
+            (cond_of both.0.value ≡ subst_in var (term_of with.now) (cond_of left.now))
+            × (cond_of both.1.value ≡ subst_in var (term_of with.now) (cond_of right.now))) }
     {
         let first = left.with_term_boxed(alloc, var, with)?;
         Ok((first, right.with_term_boxed(alloc, var, with)?))
     }
 }
 
-/// The least number from 1,048,576 on that occurs neither in the body nor in the term.
+/// Returns the least number from 1,048,576 on that occurs neither in the body nor in the term.
 fn fresh_number(body: &Form, with: &Term) -> u32
     requires { nodes (form_of body.now) + nodes_in_term (term_of with.now) < 2 ^ 31 }
     ensures { result ≡ fresh (form_of body.now) (term_of with.now) }
@@ -224,23 +244,27 @@ fn fresh_number(body: &Form, with: &Term) -> u32
     number
 }
 
-/// Whether a binder of this number, over this body, would capture a variable of the term.
+/// Returns whether a binder of `number` with this body would capture a variable of the term.
 fn captures(number: u32, with: &Term, body: &Form, var: u32) -> bool
-    ensures { result ≡ (occurs_in_term number (term_of with.now) && is_free var (form_of body.now)) }
+    ensures { result ≡ (occurs_in_term number (term_of with.now)
+        && is_free var (form_of body.now)) }
 {
     with.occurs(number) && body.free(var)
 }
 
-/// Whether the number occurs in the body or in the term.
+/// Returns whether the number occurs in the body or in the term.
 fn is_taken(number: u32, body: &Form, with: &Term) -> bool
-    ensures { result ≡ (occurs number (form_of body.now) || occurs_in_term number (term_of with.now)) }
+    ensures { result ≡ (occurs number (form_of body.now)
+        || occurs_in_term number (term_of with.now)) }
 {
     body.occurs(number) || with.occurs(number)
 }
 
-/// What stands for a numeric variable. A condition stands for 0.
+/// Returns the form that replaces the numeric variable `x`: the term if `x` is `var`, where a
+/// condition counts as 0.
 fn form_for(alloc: Global, x: u32, var: u32, with: &Term) -> Result<Form, AllocError>
-    ensures { IfOk result (λ form. form_of form ≡ cond (var == x) (as_form (term_of with.now)) (plain_form.variable x)) }
+    ensures { IfOk result (λ form. form_of form
+        ≡ cond (var == x) (as_form (term_of with.now)) (plain_form.variable x)) }
 {
     if var != x {
         return Ok(Form::Var(x));
@@ -251,9 +275,11 @@ fn form_for(alloc: Global, x: u32, var: u32, with: &Term) -> Result<Form, AllocE
     }
 }
 
-/// What stands for a Boolean variable. A formula stands for false.
+/// Returns the condition that replaces the Boolean variable `x`: the term if `x` is `var`, where a
+/// form counts as false.
 fn cond_for(alloc: Global, x: u32, var: u32, with: &Term) -> Result<Cond, AllocError>
-    ensures { IfOk result (λ c. cond_of c ≡ cond (var == x) (as_cond (term_of with.now)) (plain_cond.flag x)) }
+    ensures { IfOk result (λ c. cond_of c
+        ≡ cond (var == x) (as_cond (term_of with.now)) (plain_cond.flag x)) }
 {
     if var != x {
         return Ok(Cond::Var(x));

@@ -1,8 +1,8 @@
-//! Terms, which are put in for variables.
+//! Terms, which are substituted for variables.
 
 use crate::forms::{Cond, Form};
 
-/// What is put in for a variable: a condition for a Boolean one, a formula for a numeric one.
+/// A term: a condition, which replaces a Boolean variable, or a form, which replaces a numeric one.
 #[derive(Drop)]
 pub enum Term {
     Truth(Cond),

@@ -7,7 +7,7 @@ ghost use Rattle.std.specs.Prelude.{◌≡◌};
 use crate::types::Ty;
 use heyvl_num::Frac;
 
-/// The value of a variable: a truth value, or an exact fraction.
+/// The value of a variable: a truth value or an exact fraction.
 #[derive(Clone, Copy, Debug, PartialEq, Eq, Hash)]
 pub enum Val {
     Truth(bool),
@@ -15,7 +15,7 @@ pub enum Val {
 }
 
 impl Ty {
-    /// The value of the type that stands where no other is given: false, or 0.
+    /// Returns the default value of the type: false or 0.
     pub fn default(self) -> Val
         ensures { result ≡ states.default self }
     {
@@ -25,7 +25,7 @@ impl Ty {
         }
     }
 
-    /// Whether the value is of the type.
+    /// Returns whether the value is of the type.
     pub fn has(self, value: &Val) -> bool
         ensures { result ≡ states.has self value.now }
     {
