@@ -1,4 +1,4 @@
--- The value and the type of a form depend on its free variables alone.
+-- The value and the type of a form depend only on its free variables.
 use Rattle.std.specs.Prelude.{◌≡◌, ℕ, true}
 use Rattle.heylo_formula.specs.Formula.{Form, Cond}
 use Rattle.heylo_formula.specs.State.{Env}
@@ -7,18 +7,23 @@ use Rattle.heylo_formula.specs.Meaning.{value, holds}
 use Rattle.heylo_formula.specs.Variables.{is_free, is_free_in}
 use Rattle.heylo_formula.specs.Typing.{Types, type_of, is_well_typed}
 
--- In two environments that agree on its free variables a form has one value, and a condition holds in both or in neither.
+-- A form has the same value in two environments that agree on its free variables.
 abbrev pub ValuesDependOnFree : Type 0
-ValuesDependOnFree = (f : Form) (s t : Env) (c : Choices) → ((y : ℕ) → is_free y f ≡ true → s y ≡ t y) → value f s c ≡ value f t c
+ValuesDependOnFree = (f : Form) (s t : Env) (c : Choices)
+    → ((y : ℕ) → is_free y f ≡ true → s y ≡ t y) → value f s c ≡ value f t c
 
--- In two environments that agree on its free variables a condition holds in both or in neither.
+-- A condition holds in both or in neither of two environments that agree on its free variables.
 abbrev pub TruthDependsOnFree : Type 0
-TruthDependsOnFree = (g : Cond) (s t : Env) (c : Choices) → ((y : ℕ) → is_free_in y g ≡ true → s y ≡ t y) → holds g s c ≡ holds g t c
+TruthDependsOnFree = (g : Cond) (s t : Env) (c : Choices)
+    → ((y : ℕ) → is_free_in y g ≡ true → s y ≡ t y) → holds g s c ≡ holds g t c
 
--- For types that agree on its free variables a form has one type, and a condition is well typed for both or for neither.
+-- A form has the same type for two assignments of types that agree on its free variables.
 abbrev pub TypesDependOnFree : Type 0
-TypesDependOnFree = (f : Form) (s t : Types) → ((y : ℕ) → is_free y f ≡ true → s y ≡ t y) → type_of s f ≡ type_of t f
+TypesDependOnFree = (f : Form) (s t : Types) → ((y : ℕ) → is_free y f ≡ true → s y ≡ t y)
+    → type_of s f ≡ type_of t f
 
--- For types that agree on its free variables a condition is well typed for both or for neither.
+-- A condition is well typed for both or for neither of two assignments of types that agree on its
+-- free variables.
 abbrev pub ConditionsDependOnFree : Type 0
-ConditionsDependOnFree = (g : Cond) (s t : Types) → ((y : ℕ) → is_free_in y g ≡ true → s y ≡ t y) → is_well_typed s g ≡ is_well_typed t g
+ConditionsDependOnFree = (g : Cond) (s t : Types) → ((y : ℕ) → is_free_in y g ≡ true → s y ≡ t y)
+    → is_well_typed s g ≡ is_well_typed t g

@@ -1,13 +1,14 @@
--- The binders of a formula, with the variables that they are named after. This project's own.
+-- The binders of a form, with the variables after which they are named. This project's own.
 use Rattle.std.specs.Prelude.{ℕ, List, [], ◌∷◌, ◌++◌}
 use Rattle.heylo_formula.specs.Formula.{Form, Cond}
 use Rattle.heylo_formula.specs.declared.types.Ty.{Ty}
 
--- A binder's name, which is the number of the variable that it is named after, and its type.
+-- The name of a binder, which is the number of the variable after which it is named, and the type
+-- of its variable.
 abbrev pub Binder : Type 0
 Binder = ℕ × Ty
 
--- The occurrences of binders, in the order of the text.
+-- The binders of a form, in the order of the text.
 abbrev mutual
   pub binders : Form → List Binder
   binders (Form.number v) = []
@@ -28,7 +29,7 @@ abbrev mutual
   binders (Form.select g a b) = binders_in g ++ (binders a ++ binders b)
   binders (Form.bind up x name ty a) = (name, ty) ∷ binders a
 
-  -- Those of a condition.
+  -- The binders of a condition, in the order of the text.
   pub binders_in : Cond → List Binder
   binders_in (Cond.constant b) = []
   binders_in (Cond.flag x) = []

@@ -1,4 +1,4 @@
--- Which formulas and terms have a binder.
+-- Forms, conditions and terms with and without binders.
 use Rattle.std.specs.Prelude.{◌≡◌, Bool, true, false, ◌||◌}
 use Rattle.heylo_formula.specs.Formula.{Form, Cond, Term}
 use Rattle.heylo_formula.specs.Operators.{is_finite}
@@ -7,7 +7,7 @@ use Rattle.heylo_formula.specs.Choices.{Choices}
 use Rattle.heylo_formula.specs.Meaning.{value}
 
 abbrev mutual
-  -- Whether a formula holds an infimum or a supremum.
+  -- The form contains an infimum or a supremum.
   pub has_binder : Form → Bool
   has_binder (Form.number v) = false
   has_binder (Form.variable x) = false
@@ -27,7 +27,7 @@ abbrev mutual
   has_binder (Form.select g a b) = has_binder_in g || (has_binder a || has_binder b)
   has_binder (Form.bind up y name ty a) = true
 
-  -- Whether a condition does.
+  -- The condition contains an infimum or a supremum.
   pub has_binder_in : Cond → Bool
   has_binder_in (Cond.constant b) = false
   has_binder_in (Cond.flag x) = false
@@ -40,7 +40,9 @@ abbrev mutual
   has_binder_in (Cond.equal a b) = has_binder a || has_binder b
   has_binder_in (Cond.ite g h k) = has_binder_in g || (has_binder_in h || has_binder_in k)
 
--- A term that may be put in for a variable: it has no binder, and a number as its value in every state.
+-- A term that may be substituted for a variable: it has no binder, and a number has a finite value
+-- in every state.
 abbrev pub IsPlain : Term → Type 0
 IsPlain (Term.truth g) = has_binder_in g ≡ false
-IsPlain (Term.number f) = (has_binder f ≡ false) × ((s : Env) → is_finite (value f s Choices.stop) ≡ true)
+IsPlain (Term.number f) = (has_binder f ≡ false)
+    × ((s : Env) → is_finite (value f s Choices.stop) ≡ true)

@@ -1,7 +1,9 @@
--- What a form means where each binder takes the best value of its body: a supremum the least value that is at least each
--- of them, an infimum the greatest that is at most each. Where no fraction is the best, a form means nothing.
--- Source: HeyLo, the logic of HeyVL (Schroeer, Batz, Kaminski, Katoen, Matheja, OOPSLA 2023). The table of the operators
--- that keep suprema or infima is this project's own.
+-- The meaning of a form in which each binder takes the best value of its body: a supremum is the
+-- least value that is at least each value of the body, an infimum the largest one that is at most
+-- each. If no fraction is the best, the form has no meaning.
+--
+-- Source: HeyLo, the logic of HeyVL (Schroeer, Batz, Kaminski, Katoen, Matheja, OOPSLA 2023). Which
+-- operators preserve suprema or infima is this project's own table.
 use Rattle.std.specs.Prelude.{◌≡◌, ◌↔◌, Bool, true, false, not, ◌&&◌, ◌||◌, if◌then◌else◌}
 use Rattle.heyvl_num.specs.Value.{Value, zeroᵛ, oneᵛ, ◌+ᵛ◌, ◌*ᵛ◌}
 use Rattle.heyvl_num.specs.Value.Value.{finite, infinite}
@@ -16,37 +18,41 @@ use Rattle.heylo_formula.specs.Goals.{Compares}
 use Rattle.heylo_formula.specs.declared.types.Ty.{Ty}
 use Rattle.heylo_formula.specs.declared.values.Val.{Val}
 
--- The supremum of the values of a family over a type is at most a value exactly where each of them is; an infimum is at
--- least a value exactly where each of them is.
+-- `IsBest up ty family m`: over the values `v` of type `ty`, `m` is the supremum of `family v` if
+-- `up`, otherwise the infimum. A value is at least the supremum if and only if it is at least each
+-- `family v`; a value is at most the infimum if and only if it is at most each.
 abbrev pub IsBest : Bool → Ty → (Val → Value) → Value → Type 0
-IsBest up ty family m = (z : Value) → Compares up z m ↔ ((v : Val) → has ty v ≡ true → Compares up z (family v))
+IsBest up ty family m = (z : Value) → Compares up z m
+    ↔ ((v : Val) → has ty v ≡ true → Compares up z (family v))
 
--- An operator of one part, of what the part means.
+-- `m` is the result of the unary operator `op` for a meaning of `Part`.
 pub record Mapped (op : Value → Value) (Part : Value → Type 0) (m : Value) : Type 0 where
   pub part : Value
   pub meant : Part part
   pub result : m ≡ op part
 
--- An operator of two parts, of what they mean.
-pub record Joined (op : Value → Value → Value) (First Second : Value → Type 0) (m : Value) : Type 0 where
+-- `m` is the result of the binary operator `op` for meanings of `First` and `Second`.
+pub record Joined (op : Value → Value → Value) (First Second : Value → Type 0) (m : Value)
+    : Type 0 where
   pub first : Value
   pub second : Value
   pub first_meant : First first
   pub second_meant : Second second
   pub result : m ≡ op first second
 
--- A binder: the best of what the body means, for each value of the type.
+-- `m` is the best of what the body means for each value of the type.
 pub record Bound (up : Bool) (ty : Ty) (Body : Val → Value → Type 0) (m : Value) : Type 0 where
   pub family : Val → Value
   pub meant : (v : Val) → has ty v ≡ true → Body v (family v)
   pub best : IsBest up ty family m
 
--- The first of two claims where the flag is true, else the second.
+-- `A` if the flag is true, otherwise `B`.
 abbrev pub Chosen : Bool → Type 0 → Type 0 → Type 0
 Chosen true A B = A
 Chosen false A B = B
 
--- A condition of a well-typed form has no binder, and so needs no choices.
+-- `Means f s m`: the form `f` means `m` in the environment `s`. A condition of a well-typed form
+-- has no binder, and hence needs no choices. For example, `sup b: Bool. [b]` means 1.
 abbrev pub Means : Form → Env → Value → Type 0
 Means (Form.number v) s m = m ≡ v
 Means (Form.variable x) s m = m ≡ finite (number_of (s x))
@@ -66,7 +72,7 @@ Means (Form.iverson g) s m = m ≡ (if holds g s Choices.stop then oneᵛ else z
 Means (Form.select g a b) s m = Chosen (holds g s Choices.stop) (Means a s m) (Means b s m)
 Means (Form.bind up x name ty a) s m = Bound up ty (λ v. Means a (put x v s)) m
 
--- A finite number.
+-- The form is a finite constant.
 abbrev pub is_number : Form → Bool
 is_number (Form.number v) = is_finite v
 is_number (Form.variable x) = false
@@ -86,7 +92,9 @@ is_number (Form.iverson g) = false
 is_number (Form.select g a b) = false
 is_number (Form.bind up x name ty a) = false
 
--- A form without binders that is a finite number at most.
+-- The form is `min(a, n)` or the truncated difference `n - a`, where `a` has no binder and `n` is a
+-- finite constant, so that its value is at most `n`. The probabilities of `flip` in generated forms
+-- are such forms.
 abbrev pub is_weight : Form → Bool
 is_weight (Form.number v) = false
 is_weight (Form.variable x) = false
@@ -106,9 +114,10 @@ is_weight (Form.iverson g) = false
 is_weight (Form.select g a b) = false
 is_weight (Form.bind up x name ty a) = false
 
--- Whether each binder is of the direction, and stands only under operators that keep the best value of a part: all that
--- a generated form puts over a binder. An implication doesn't keep a supremum, nor does validate; a coimplication doesn't
--- keep an infimum, nor does covalidate.
+-- Every binder of the form is a supremum if `up`, otherwise an infimum, and is only below operators
+-- that preserve the best value. An implication does not preserve a supremum, nor does validate; a
+-- coimplication does not preserve an infimum, nor does covalidate. Generated forms have only such
+-- operators above their binders.
 abbrev pub is_directed : Bool → Form → Bool
 is_directed up (Form.number v) = true
 is_directed up (Form.variable x) = true
@@ -116,11 +125,14 @@ is_directed up (Form.sum a b) = is_directed up a && is_directed up b
 is_directed up (Form.difference a b) = not (has_binder (Form.difference a b))
 is_directed up (Form.cut a b) = not (has_binder (Form.cut a b))
 is_directed up (Form.scale w a) = is_directed up a
-is_directed up (Form.product a b span) = not (has_binder (Form.product a b span)) || (is_weight a && is_directed up b)
+is_directed up (Form.product a b span) =
+    not (has_binder (Form.product a b span)) || (is_weight a && is_directed up b)
 is_directed up (Form.min a b) = is_directed up a && is_directed up b
 is_directed up (Form.max a b) = is_directed up a && is_directed up b
-is_directed up (Form.imply a b) = not (has_binder a) && (if up then not (has_binder b) else is_directed up b)
-is_directed up (Form.co_imply a b) = not (has_binder a) && (if up then is_directed up b else not (has_binder b))
+is_directed up (Form.imply a b) =
+    not (has_binder a) && (if up then not (has_binder b) else is_directed up b)
+is_directed up (Form.co_imply a b) =
+    not (has_binder a) && (if up then is_directed up b else not (has_binder b))
 is_directed up (Form.validate a) = if up then not (has_binder a) else is_directed up a
 is_directed up (Form.co_validate a) = if up then is_directed up a else not (has_binder a)
 is_directed up (Form.embed g) = not (has_binder_in g)

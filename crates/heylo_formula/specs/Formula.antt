@@ -1,4 +1,6 @@
--- Formulas, conditions and terms as plain trees.
+-- Formulas, conditions and terms of HeyLo as plain trees. A *form* is any tree with a number or
+-- infinity as its value; a *formula* is a form whose type is unsigned (`IsFormula`), so that its
+-- value is in [0, ∞].
 use Rattle.std.specs.Prelude.{ℕ, Bool}
 use Rattle.heyvl_num.specs.Rational.{Rational}
 use Rattle.heyvl_num.specs.Value.{Value}
@@ -6,7 +8,7 @@ use Rattle.heyvl_places.specs.declared.spans.Span.{Span}
 use Rattle.heylo_formula.specs.declared.types.Ty.{Ty}
 
 mutual
-  -- A formula: what has a value in [0, ∞].
+  -- A form.
   pub data Form : Type 0 where
     number : Value → Form
     variable : ℕ → Form
@@ -26,7 +28,7 @@ mutual
     select : Cond → Form → Form → Form
     bind : Bool → ℕ → ℕ → Ty → Form → Form
 
-  -- A condition: what is true or false.
+  -- A condition, which is true or false.
   pub data Cond : Type 0 where
     constant : Bool → Cond
     flag : ℕ → Cond
@@ -39,7 +41,8 @@ mutual
     equal : Form → Form → Cond
     ite : Cond → Cond → Cond → Cond
 
--- What is put in for a variable.
+-- A term, which is substituted for a variable: a condition for a Boolean one, a form for a numeric
+-- one.
 pub data Term : Type 0 where
   truth : Cond → Term
   number : Form → Term

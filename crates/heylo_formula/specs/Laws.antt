@@ -1,4 +1,5 @@
--- Laws of formulas: what a value depends on, and that renaming and substitution are changes of state.
+-- Laws of forms: what a value depends on, and that renaming and substitution are changes of the
+-- state.
 use Rattle.std.specs.Prelude.{◌≡◌, ℕ, false}
 use Rattle.heylo_formula.specs.Formula.{Form, Cond, Term}
 use Rattle.heylo_formula.specs.Variables.{is_free, is_free_in, occurs, occurs_in}
@@ -9,38 +10,50 @@ use Rattle.heylo_formula.specs.Binders.{has_binder, has_binder_in, IsPlain}
 use Rattle.heylo_formula.specs.Substitution.{renamed, renamed_in, subst, subst_in, fresh, IsFresh}
 use Rattle.heylo_formula.specs.declared.values.Val.{Val}
 
--- A variable that isn't free doesn't matter to the value of a form, or to the truth of a condition.
+-- The value of a form does not depend on a variable that is not free in it.
 abbrev pub ValuesIgnoreOthers : Type 0
-ValuesIgnoreOthers = (x : ℕ) (f : Form) (v : Val) (s : Env) (c : Choices) → is_free x f ≡ false → value f (put x v s) c ≡ value f s c
+ValuesIgnoreOthers = (x : ℕ) (f : Form) (v : Val) (s : Env) (c : Choices) → is_free x f ≡ false
+    → value f (put x v s) c ≡ value f s c
 
--- A variable that isn't free doesn't matter to the truth of a condition.
+-- Whether a condition holds does not depend on a variable that is not free in it.
 abbrev pub TruthIgnoresOthers : Type 0
-TruthIgnoresOthers = (x : ℕ) (g : Cond) (v : Val) (s : Env) (c : Choices) → is_free_in x g ≡ false → holds g (put x v s) c ≡ holds g s c
+TruthIgnoresOthers = (x : ℕ) (g : Cond) (v : Val) (s : Env) (c : Choices) → is_free_in x g ≡ false
+    → holds g (put x v s) c ≡ holds g s c
 
--- Choices don't matter where there is no binder.
+-- The value of a form without binders does not depend on choices.
 abbrev pub ValuesIgnoreChoices : Type 0
-ValuesIgnoreChoices = (f : Form) (s : Env) (c : Choices) → has_binder f ≡ false → value f s c ≡ value f s Choices.stop
+ValuesIgnoreChoices = (f : Form) (s : Env) (c : Choices) → has_binder f ≡ false
+    → value f s c ≡ value f s Choices.stop
 
--- Choices don't matter to the truth of a condition that has no binder.
+-- Whether a condition without binders holds does not depend on choices.
 abbrev pub TruthIgnoresChoices : Type 0
-TruthIgnoresChoices = (g : Cond) (s : Env) (c : Choices) → has_binder_in g ≡ false → holds g s c ≡ holds g s Choices.stop
+TruthIgnoresChoices = (g : Cond) (s : Env) (c : Choices) → has_binder_in g ≡ false
+    → holds g s c ≡ holds g s Choices.stop
 
--- A renaming to a number that doesn't occur keeps the value, where the state is renamed.
+-- A form in which `y` is renamed to a variable `z` that does not occur in it has the value of the
+-- form in the state in which `y` has the value of `z`.
 abbrev pub RenamingKeepsValues : Type 0
-RenamingKeepsValues = (y z : ℕ) (f : Form) (s : Env) (c : Choices) → occurs z f ≡ false → value (renamed y z f) s c ≡ value f (put y (s z) s) c
+RenamingKeepsValues = (y z : ℕ) (f : Form) (s : Env) (c : Choices) → occurs z f ≡ false
+    → value (renamed y z f) s c ≡ value f (put y (s z) s) c
 
--- A renaming to a number that doesn't occur keeps the truth of a condition, where the state is renamed.
+-- A condition in which `y` is renamed to a variable `z` that does not occur in it holds if and only
+-- if the condition holds in the state in which `y` has the value of `z`.
 abbrev pub RenamingKeepsTruth : Type 0
-RenamingKeepsTruth = (y z : ℕ) (g : Cond) (s : Env) (c : Choices) → occurs_in z g ≡ false → holds (renamed_in y z g) s c ≡ holds g (put y (s z) s) c
+RenamingKeepsTruth = (y z : ℕ) (g : Cond) (s : Env) (c : Choices) → occurs_in z g ≡ false
+    → holds (renamed_in y z g) s c ≡ holds g (put y (s z) s) c
 
--- The number that a binder takes is the least unused one.
+-- The variable that a binder takes is the least unused one.
 abbrev pub FreshIsLeast : Type 0
 FreshIsLeast = (a : Form) (t : Term) → IsFresh a t (fresh a t)
 
--- A substitution of a plain term is a change of state, for all choices.
+-- After a plain term is substituted for a variable, a form has its value in the state in which the
+-- variable has the value of the term, for all choices.
 abbrev pub SubstitutionChangesState : Type 0
-SubstitutionChangesState = (x : ℕ) (t : Term) (f : Form) (s : Env) (c : Choices) → IsPlain t → value (subst x t f) s c ≡ value f (put x (term_value t s) s) c
+SubstitutionChangesState = (x : ℕ) (t : Term) (f : Form) (s : Env) (c : Choices) → IsPlain t
+    → value (subst x t f) s c ≡ value f (put x (term_value t s) s) c
 
--- A substitution of a plain term in a condition is a change of state, for all choices.
+-- After a plain term is substituted for a variable, a condition holds if and only if it holds in
+-- the state in which the variable has the value of the term, for all choices.
 abbrev pub SubstitutionChangesStateOfTruth : Type 0
-SubstitutionChangesStateOfTruth = (x : ℕ) (t : Term) (g : Cond) (s : Env) (c : Choices) → IsPlain t → holds (subst_in x t g) s c ≡ holds g (put x (term_value t s) s) c
+SubstitutionChangesStateOfTruth = (x : ℕ) (t : Term) (g : Cond) (s : Env) (c : Choices) → IsPlain t
+    → holds (subst_in x t g) s c ≡ holds g (put x (term_value t s) s) c

@@ -1,11 +1,12 @@
--- What formulas, conditions and terms mean in a state, where each binder takes the value that a choice tree gives it.
--- Source: HeyLo, the logic of HeyVL (Schroeer, Batz, Kaminski, Katoen, Matheja, OOPSLA 2023); choice trees are this
--- project's own.
+-- The meaning of forms, conditions and terms in a state, where a choice tree gives each binder its
+-- value. Source: HeyLo, the logic of HeyVL (Schroeer, Batz, Kaminski, Katoen, Matheja, OOPSLA
+-- 2023); choice trees are this project's own.
 use Rattle.std.specs.Prelude.{Bool, not, ◌&&◌, ◌||◌, if◌then◌else◌}
 use Rattle.heyvl_num.specs.Value.{Value, zeroᵛ, oneᵛ, leqᵛ, ◌+ᵛ◌, ◌*ᵛ◌}
 use Rattle.heyvl_num.specs.Value.Value.{finite, infinite}
 use Rattle.heyvl_num.specs.ValueOperators.{minᵛ, maxᵛ, impliesᵛ, coimpliesᵛ, monusᵛ}
-use Rattle.heylo_formula.specs.Operators.{differenceᵛ, validateᵛ, covalidateᵛ, lessᵛ, equalᵛ, agree, finite_part}
+use Rattle.heylo_formula.specs.Operators.{differenceᵛ, validateᵛ, covalidateᵛ, lessᵛ, equalᵛ, agree}
+use Rattle.heylo_formula.specs.Operators.{finite_part}
 use Rattle.heylo_formula.specs.State.{Env, put, fit, truth_of, number_of}
 use Rattle.heylo_formula.specs.Choices.{Choices, here, left, right}
 use Rattle.heylo_formula.specs.Formula.{Form, Cond, Term}
@@ -13,7 +14,8 @@ use Rattle.heylo_formula.specs.declared.values.Val.{Val}
 use Rattle.heylo_formula.specs.declared.values.Val.TheVariants.{Truth, Num}
 
 abbrev mutual
-  -- The value of a formula in a state, under the choices for its binders.
+  -- `value f s c`: the value of the form `f` in the environment `s`, with the choices `c` for its
+  -- binders. If `c` chooses 3, the value of `sup x1: UReal. x1` is 3.
   pub value : Form → Env → Choices → Value
   value (Form.number v) s c = v
   value (Form.variable x) s c = finite (number_of (s x))
@@ -30,10 +32,12 @@ abbrev mutual
   value (Form.co_validate a) s c = covalidateᵛ (value a s c)
   value (Form.embed g) s c = if holds g s c then infinite else zeroᵛ
   value (Form.iverson g) s c = if holds g s c then oneᵛ else zeroᵛ
-  value (Form.select g a b) s c = if holds g s (left c) then value a s (right c) else value b s (right c)
+  value (Form.select g a b) s c = if holds g s (left c) then value a s (right c)
+      else value b s (right c)
   value (Form.bind up x name ty a) s c = value a (put x (fit ty (here c)) s) (left c)
 
-  -- Whether a condition is true in a state, under the choices for its binders.
+  -- `holds g s c`: the condition `g` is true in the environment `s`, with the choices `c` for its
+  -- binders.
   pub holds : Cond → Env → Choices → Bool
   holds (Cond.constant b) s c = b
   holds (Cond.flag x) s c = truth_of (s x)
@@ -44,9 +48,10 @@ abbrev mutual
   holds (Cond.le a b) s c = leqᵛ (value a s (left c)) (value b s (right c))
   holds (Cond.lt a b) s c = lessᵛ (value a s (left c)) (value b s (right c))
   holds (Cond.equal a b) s c = equalᵛ (value a s (left c)) (value b s (right c))
-  holds (Cond.ite g h k) s c = if holds g s (left c) then holds h s (right c) else holds k s (right c)
+  holds (Cond.ite g h k) s c = if holds g s (left c) then holds h s (right c)
+      else holds k s (right c)
 
--- A term has no binder, and so needs no choices.
+-- The value of a term. A term has no binder, and hence needs no choices.
 abbrev pub term_value : Term → Env → Val
 term_value (Term.truth g) s = Truth (holds g s Choices.stop)
 term_value (Term.number f) s = Num (finite_part (value f s Choices.stop))

@@ -1,4 +1,4 @@
--- For which forms a meaning with suprema and infima is known to exist.
+-- Forms whose meaning with suprema and infima exists.
 use Rattle.std.specs.Prelude.{◌≡◌, Bool, true, ◌&&◌}
 use Rattle.heyvl_num.specs.Value.{Value}
 use Rattle.heylo_formula.specs.Formula.{Form}
@@ -6,7 +6,8 @@ use Rattle.heylo_formula.specs.State.{Env}
 use Rattle.heylo_formula.specs.Typing.{is_bool}
 use Rattle.heylo_formula.specs.Extrema.{Means}
 
--- Whether each binder is over Bool. Conditions don't count, since those of well-typed forms have no binder.
+-- `chooses_finitely f`: each binder of the form `f` is over Bool. Binders in conditions are not
+-- counted, since a well-typed condition has none.
 abbrev pub chooses_finitely : Form → Bool
 chooses_finitely (Form.number v) = true
 chooses_finitely (Form.variable x) = true
@@ -26,13 +27,16 @@ chooses_finitely (Form.iverson g) = true
 chooses_finitely (Form.select g a b) = chooses_finitely a && chooses_finitely b
 chooses_finitely (Form.bind up x name ty a) = is_bool ty && chooses_finitely a
 
--- The form has a meaning in the state: a value that it means.
+-- `HasMeaning f s`: the form `f` has a meaning in the environment `s`.
 pub record HasMeaning (f : Form) (s : Env) : Type 0 where
   pub meaning : Value
   pub meant : Means f s meaning
 
--- A form whose binders are over Bool has a meaning in each state. A binder over numbers may have none: the supremum of the
--- x whose square is at most 2 is no fraction. Where all cases are linear there would be one; no law here speaks of it, and
--- no clause needs it, since bounds by choices say what a goal asks.
+-- A form whose binders are all over Bool has a meaning in each environment.
+--
+-- A form with a binder over numbers may have no meaning: the supremum of the numbers whose square
+-- is at most 2 is no fraction. A form has a meaning if it is linear, its conditions included. No
+-- law states this, and no contract needs it, since `BoundsHoldByChoices` reduces a bound to all
+-- choices.
 abbrev pub FiniteChoicesHaveMeanings : Type 0
 FiniteChoicesHaveMeanings = (f : Form) (s : Env) → chooses_finitely f ≡ true → HasMeaning f s

@@ -1,8 +1,8 @@
--- Whether the value of a formula depends on a number of the state otherwise than through conditions. This project's own.
+-- Numeric variables outside conditions. This project's own.
 use Rattle.std.specs.Prelude.{Bool, true, false, ◌||◌}
 use Rattle.heylo_formula.specs.Formula.{Form}
 
--- Whether a numeric variable occurs outside conditions.
+-- A numeric variable occurs in the form outside conditions.
 abbrev pub has_variable : Form → Bool
 has_variable (Form.number v) = false
 has_variable (Form.variable x) = true

@@ -1,4 +1,4 @@
--- The trees that the program holds, read as plain trees.
+-- The plain trees of the forms, conditions and terms of the code.
 use Rattle.heyvl_num.specs.ExtendedNumbers.{value_of}
 use Rattle.heylo_formula.specs.declared.forms.Form as F
 use Rattle.heylo_formula.specs.declared.forms.Cond as C
@@ -7,7 +7,7 @@ use Rattle.heylo_formula.specs.declared.forms.Cond.TheFolds.{fold-Form, fold-Con
 use Rattle.heylo_formula.specs.declared.terms.Term as T
 use Rattle.heylo_formula.specs.Formula.{Form, Cond, Term}
 
--- The plain tree of a form whose parts are plain trees already.
+-- The plain tree of a form whose subtrees are plain trees already.
 abbrev pub form_layer : Form-F Cond Form → Form
 form_layer (Form-F.«Form::Const» v) = Form.number (value_of v)
 form_layer (Form-F.«Form::Var» x) = Form.variable x
@@ -27,7 +27,7 @@ form_layer (Form-F.Iverson g) = Form.iverson g.value
 form_layer (Form-F.Select g a b) = Form.select g.value a.value b.value
 form_layer (Form-F.Bind up y name ty a) = Form.bind up y name ty a.value
 
--- The plain tree of a condition whose parts are plain trees already.
+-- The plain tree of a condition whose subtrees are plain trees already.
 abbrev pub cond_layer : Cond-F Cond Form → Cond
 cond_layer (Cond-F.«Cond::Const» b) = Cond.constant b
 cond_layer (Cond-F.«Cond::Var» x) = Cond.flag x

@@ -1,9 +1,11 @@
--- Formulas whose variables are numbered anew, all at once. This project's own.
+-- Shifted forms, in which the numbers of all variables are increased by the same number. This
+-- project's own.
 use Rattle.std.specs.Prelude.{ℕ, ◌+◌, max}
 use Rattle.heylo_formula.specs.Formula.{Form, Cond}
 
--- A number is added to the number of each variable, those that binders bind included, so that no binder captures. The name
--- that a binder bears stays.
+-- `shifted m f`: the form `f` with `m` added to the number of each variable, bound variables
+-- included, so that no binder captures. The names of binders do not change. With `m` = 2, the form
+-- `sup x1: UInt. x0 + x1` becomes `sup x3: UInt. x2 + x3`.
 abbrev mutual
   pub shifted : ℕ → Form → Form
   shifted m (Form.number v) = Form.number v
@@ -24,7 +26,7 @@ abbrev mutual
   shifted m (Form.select g a b) = Form.select (shifted_in m g) (shifted m a) (shifted m b)
   shifted m (Form.bind up x name ty a) = Form.bind up (m + x) name ty (shifted m a)
 
-  -- The same in a condition.
+  -- The condition with `m` added to the number of each variable, bound variables included.
   pub shifted_in : ℕ → Cond → Cond
   shifted_in m (Cond.constant b) = Cond.constant b
   shifted_in m (Cond.flag x) = Cond.flag (m + x)
@@ -37,7 +39,8 @@ abbrev mutual
   shifted_in m (Cond.equal a b) = Cond.equal (shifted m a) (shifted m b)
   shifted_in m (Cond.ite g h k) = Cond.ite (shifted_in m g) (shifted_in m h) (shifted_in m k)
 
--- One more than the greatest number that occurs, as a variable or as what a binder binds; 0 where none does.
+-- 1 plus the largest number that occurs in the form as a variable or a bound variable; 0 if none
+-- does. The extent of `x3 + 1` is 4.
 abbrev mutual
   pub extent : Form → ℕ
   extent (Form.number v) = 0
@@ -58,7 +61,8 @@ abbrev mutual
   extent (Form.select g a b) = max (extent_in g) (max (extent a) (extent b))
   extent (Form.bind up x name ty a) = max (1 + x) (extent a)
 
-  -- That of a condition.
+  -- 1 plus the largest number that occurs in the condition as a variable or a bound variable; 0 if
+  -- none does.
   pub extent_in : Cond → ℕ
   extent_in (Cond.constant b) = 0
   extent_in (Cond.flag x) = 1 + x

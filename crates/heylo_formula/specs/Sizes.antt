@@ -1,8 +1,8 @@
--- How large a formula is.
+-- The sizes of forms, conditions and terms.
 use Rattle.std.specs.Prelude.{ℕ, ◌+◌, max}
 use Rattle.heylo_formula.specs.Formula.{Form, Cond, Term}
 
--- The number of nodes, conditions and formulas each counted once.
+-- The number of nodes of a form, those of its conditions included. `x0 + 1` has 3 nodes.
 abbrev mutual
   pub nodes : Form → ℕ
   nodes (Form.number v) = 1
@@ -23,7 +23,7 @@ abbrev mutual
   nodes (Form.select g a b) = 1 + (nodes_in g + (nodes a + nodes b))
   nodes (Form.bind up y name ty a) = 1 + nodes a
 
-  -- Those of a condition.
+  -- The number of nodes of a condition, those of its forms included.
   pub nodes_in : Cond → ℕ
   nodes_in (Cond.constant b) = 1
   nodes_in (Cond.flag x) = 1
@@ -36,12 +36,13 @@ abbrev mutual
   nodes_in (Cond.equal a b) = 1 + (nodes a + nodes b)
   nodes_in (Cond.ite g h k) = 1 + (nodes_in g + (nodes_in h + nodes_in k))
 
--- The number of nodes of the condition or the form that a term is.
+-- The number of nodes of a term.
 abbrev pub nodes_in_term : Term → ℕ
 nodes_in_term (Term.truth g) = nodes_in g
 nodes_in_term (Term.number f) = nodes f
 
--- The nodes on the longest way down; a leaf has depth 1.
+-- The number of nodes on a longest path from the root of a form to a leaf. A leaf has depth 1, and
+-- the sum `x0 + 1` has depth 2.
 abbrev mutual
   pub depth : Form → ℕ
   depth (Form.number v) = 1
@@ -62,7 +63,7 @@ abbrev mutual
   depth (Form.select g a b) = 1 + max (depth_in g) (max (depth a) (depth b))
   depth (Form.bind up y name ty a) = 1 + depth a
 
-  -- That of a condition.
+  -- The number of nodes on a longest path from the root of a condition to a leaf.
   pub depth_in : Cond → ℕ
   depth_in (Cond.constant b) = 1
   depth_in (Cond.flag x) = 1

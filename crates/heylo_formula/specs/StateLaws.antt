@@ -1,63 +1,76 @@
--- Laws of states: lists of values, the environments that they are, and changes of variables.
+-- Laws of states: lists of values, their environments, and changes of variables.
 use Rattle.std.specs.Prelude.{◌≡◌, ℕ, ◌+◌, ◌<◌, true, false, ◌==◌, List, ◌++◌, length, set}
 use Rattle.heylo_formula.specs.State.{Env, put, has, environment, IsTyped, listed}
 use Rattle.heylo_formula.specs.Typing.{Types, types_in, HasTypes}
 use Rattle.heylo_formula.specs.declared.types.Ty.{Ty}
 use Rattle.heylo_formula.specs.declared.values.Val.{Val}
 
--- A typed list of values has one for each type, and is a typed environment.
+-- A typed list of values has as many values as there are types.
 abbrev pub TypedListsHaveAllValues : Type 0
 TypedListsHaveAllValues = (tys : List Ty) (s : List Val) → IsTyped tys s → length s ≡ length tys
 
 -- In the environment of a typed list each variable has a value of its type.
 abbrev pub TypedListsAreTypedEnvironments : Type 0
-TypedListsAreTypedEnvironments = (tys : List Ty) (s : List Val) → IsTyped tys s → HasTypes (types_in tys) (environment s)
+TypedListsAreTypedEnvironments = (tys : List Ty) (s : List Val) → IsTyped tys s
+    → HasTypes (types_in tys) (environment s)
 
--- The environment of a changed list is the changed environment, within the list.
+-- Changing a variable in a list changes it in the environment of the list.
 abbrev pub ChangedListsAreChangedEnvironments : Type 0
-ChangedListsAreChangedEnvironments = (s : List Val) (x : ℕ) (v : Val) → x < length s → environment (set s x v) ≡ put x v (environment s)
+ChangedListsAreChangedEnvironments = (s : List Val) (x : ℕ) (v : Val) → x < length s
+    → environment (set s x v) ≡ put x v (environment s)
 
--- A change to a value of the variable's type keeps lists and environments typed.
+-- Changing a variable to a value of its type keeps a list typed.
 abbrev pub ChangesKeepTypedLists : Type 0
-ChangesKeepTypedLists = (tys : List Ty) (s : List Val) (x : ℕ) (v : Val) → IsTyped tys s → x < length tys → has (types_in tys x) v ≡ true → IsTyped tys (set s x v)
+ChangesKeepTypedLists = (tys : List Ty) (s : List Val) (x : ℕ) (v : Val) → IsTyped tys s
+    → x < length tys → has (types_in tys x) v ≡ true → IsTyped tys (set s x v)
 
--- An environment stays typed where a variable takes a value of its type.
+-- Changing a variable to a value of its type keeps an environment typed.
 abbrev pub ChangesKeepTypes : Type 0
-ChangesKeepTypes = (types : Types) (s : Env) (x : ℕ) (v : Val) → HasTypes types s → has (types x) v ≡ true → HasTypes types (put x v s)
+ChangesKeepTypes = (types : Types) (s : Env) (x : ℕ) (v : Val) → HasTypes types s
+    → has (types x) v ≡ true → HasTypes types (put x v s)
 
--- Two typed lists, one after the other, are typed. Their environment, and their types, are those of the first so far, and
--- from there on those of the second.
+-- Two typed lists, appended, are typed.
 abbrev pub TypedListsAppend : Type 0
-TypedListsAppend = (tys us : List Ty) (s t : List Val) → IsTyped tys s → IsTyped us t → IsTyped (tys ++ us) (s ++ t)
+TypedListsAppend = (tys us : List Ty) (s t : List Val) → IsTyped tys s → IsTyped us t
+    → IsTyped (tys ++ us) (s ++ t)
 
--- The environment of two lists, one after the other, is that of the first so far as the first reaches.
+-- The environment of two appended lists is that of the first list for the variables of the first
+-- list.
 abbrev pub FirstOfTwoLists : Type 0
 FirstOfTwoLists = (s t : List Val) (y : ℕ) → y < length s → environment (s ++ t) y ≡ environment s y
 
--- The environment of two lists, one after the other, is that of the second from the end of the first on.
+-- The environment of two appended lists is that of the second list for the variables after the
+-- first list.
 abbrev pub SecondOfTwoLists : Type 0
 SecondOfTwoLists = (s t : List Val) (y : ℕ) → environment (s ++ t) (length s + y) ≡ environment t y
 
--- The types of two lists, one after the other, are those of the first so far as the first reaches.
+-- The types of two appended lists are those of the first list for the variables of the first list.
 abbrev pub TypesOfTheFirst : Type 0
-TypesOfTheFirst = (tys us : List Ty) (y : ℕ) → y < length tys → types_in (tys ++ us) y ≡ types_in tys y
+TypesOfTheFirst = (tys us : List Ty) (y : ℕ) → y < length tys
+    → types_in (tys ++ us) y ≡ types_in tys y
 
--- The types of two lists, one after the other, are those of the second from the end of the first on.
+-- The types of two appended lists are those of the second list for the variables after the first
+-- list.
 abbrev pub TypesOfTheSecond : Type 0
-TypesOfTheSecond = (tys us : List Ty) (y : ℕ) → types_in (tys ++ us) (length tys + y) ≡ types_in us y
+TypesOfTheSecond = (tys us : List Ty) (y : ℕ)
+    → types_in (tys ++ us) (length tys + y) ≡ types_in us y
 
--- The first values of an environment are its values, and a typed list where they are typed.
+-- The list of the first values of an environment has these values.
 abbrev pub FirstValuesAreValues : Type 0
 FirstValuesAreValues = (n : ℕ) (s : Env) (y : ℕ) → y < n → s y ≡ environment (listed n s) y
 
--- The first values of an environment are a typed list where each of them is of its type.
+-- The list of the first values of an environment is typed if each of them is of its type.
 abbrev pub FirstValuesAreTyped : Type 0
-FirstValuesAreTyped = (tys : List Ty) (s : Env) → ((y : ℕ) → y < length tys → has (types_in tys y) (s y) ≡ true) → IsTyped tys (listed (length tys) s)
+FirstValuesAreTyped = (tys : List Ty) (s : Env)
+    → ((y : ℕ) → y < length tys → has (types_in tys y) (s y) ≡ true)
+    → IsTyped tys (listed (length tys) s)
 
--- Changes of two variables commute; of two changes of one variable the later counts.
+-- Changes of two different variables commute.
 abbrev pub ChangesCommute : Type 0
-ChangesCommute = (x y : ℕ) (v w : Val) (s : Env) → (x == y) ≡ false → put x w (put y v s) ≡ put y v (put x w s)
+ChangesCommute = (x y : ℕ) (v w : Val) (s : Env) → (x == y) ≡ false
+    → put x w (put y v s) ≡ put y v (put x w s)
 
--- Of two changes of one variable the later counts.
+-- Of two changes of one variable, the later one counts.
 abbrev pub LaterChangesCount : Type 0
-LaterChangesCount = (x y : ℕ) (v w : Val) (s : Env) → (x == y) ≡ true → put y v (put x w s) ≡ put y v s
+LaterChangesCount = (x y : ℕ) (v w : Val) (s : Env) → (x == y) ≡ true
+    → put y v (put x w s) ≡ put y v s

@@ -1,8 +1,9 @@
--- Where the number of a variable occurs in a formula.
+-- Occurrences of variables in forms, conditions and terms.
 use Rattle.std.specs.Prelude.{◌≡◌, ℕ, ◌<◌, Bool, true, false, ◌==◌, ◌||◌, if◌then◌else◌}
 use Rattle.heylo_formula.specs.Formula.{Form, Cond, Term}
 
--- Whether the variable occurs outside every binder of its number.
+-- The variable occurs in the form outside of every binder of it. In `sup x1: UInt. x0 + x1` only
+-- `x0` is free.
 abbrev mutual
   pub is_free : ℕ → Form → Bool
   is_free x (Form.number v) = false
@@ -23,7 +24,7 @@ abbrev mutual
   is_free x (Form.select g a b) = is_free_in x g || (is_free x a || is_free x b)
   is_free x (Form.bind up y name ty a) = if x == y then false else is_free x a
 
-  -- The same in a condition.
+  -- The variable occurs in the condition outside of every binder of it.
   pub is_free_in : ℕ → Cond → Bool
   is_free_in x (Cond.constant b) = false
   is_free_in x (Cond.flag y) = x == y
@@ -36,7 +37,7 @@ abbrev mutual
   is_free_in x (Cond.equal a b) = is_free x a || is_free x b
   is_free_in x (Cond.ite g h k) = is_free_in x g || (is_free_in x h || is_free_in x k)
 
--- Whether the number occurs at all: as a variable, or as what a binder binds.
+-- The number occurs in the form, as a variable or as the variable of a binder.
 abbrev mutual
   pub occurs : ℕ → Form → Bool
   occurs x (Form.number v) = false
@@ -57,7 +58,7 @@ abbrev mutual
   occurs x (Form.select g a b) = occurs_in x g || (occurs x a || occurs x b)
   occurs x (Form.bind up y name ty a) = (x == y) || occurs x a
 
-  -- The same in a condition.
+  -- The number occurs in the condition, as a variable or as the variable of a binder.
   pub occurs_in : ℕ → Cond → Bool
   occurs_in x (Cond.constant b) = false
   occurs_in x (Cond.flag y) = x == y
@@ -70,15 +71,15 @@ abbrev mutual
   occurs_in x (Cond.equal a b) = occurs x a || occurs x b
   occurs_in x (Cond.ite g h k) = occurs_in x g || (occurs_in x h || occurs_in x k)
 
--- Whether the number occurs in the condition or the form that a term is.
+-- The number occurs in the term, as a variable or as the variable of a binder.
 abbrev pub occurs_in_term : ℕ → Term → Bool
 occurs_in_term x (Term.truth g) = occurs_in x g
 occurs_in_term x (Term.number f) = occurs x f
 
--- Each free variable of the form is one of the first n.
+-- Each free variable of the form is below `n`.
 abbrev pub IsOver : ℕ → Form → Type 0
 IsOver n f = (x : ℕ) → is_free x f ≡ true → x < n
 
--- Each free variable of the condition is one of the first n.
+-- Each free variable of the condition is below `n`.
 abbrev pub IsOverIn : ℕ → Cond → Type 0
 IsOverIn n g = (x : ℕ) → is_free_in x g ≡ true → x < n
