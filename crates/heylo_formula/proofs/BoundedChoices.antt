@@ -55,7 +55,7 @@ compares_terms : (up : Bool) (z x : Value) (y : Rational) → Compares up z x �
 compares_terms true z x y = finite_terms x z y
 compares_terms false z x y = finite_terms z x y
 
--- ---- What keeps the best value of a family: a value that bounds the family bounds m
+-- ---- Operators that preserve the best value of a family: a value that bounds the family bounds m
 
 abbrev Closes : Bool → (Choices → Value) → Value → Type 0
 Closes up p m = (z : Value) → ((c : Choices) → Compares up z (p c)) → Compares up z m
@@ -63,7 +63,7 @@ Closes up p m = (z : Value) → ((c : Choices) → Compares up z (p c)) → Comp
 closes_same : (up : Bool) (p q : Choices → Value) (m n : Value) → ((c : Choices) → p c ≡ q c) → m ≡ n → Closes up p m → Closes up q n
 closes_same up p q m n e f h z k = subst (λ u. Compares up z u) f (h z (λ c. subst (λ u. Compares up z u) (sym (e c)) (k c)))
 
--- what gives a value with a fraction
+-- Each `z` is a value plus the fraction `y`.
 before : (z : Value) (y : Rational) → (x : Value) × (x +ᵛ finite y ≡ z)
 before (finite z) y = (finite (z +ʳ negʳ y), finite-+ (z +ʳ negʳ y) y ∙ ap finite (+ʳ_assoc z (negʳ y) y ∙ ap (λ u. z +ʳ u) (neg-+ʳ y) ∙ +ʳ-zero z))
 before infinite y = (infinite, +ᵛ_comm infinite (finite y) ∙ +ᵛ-infinite (finite y))
@@ -142,11 +142,11 @@ closes_max false p m y h z k = go (at_most_or_less z y)
 closes_max_right : (up : Bool) (p : Choices → Value) (m x : Value) → Closes up p m → Closes up (λ c. maxᵛ x (p c)) (maxᵛ x m)
 closes_max_right up p m x h = closes_same up (λ c. maxᵛ (p c) x) (λ c. maxᵛ x (p c)) (maxᵛ m x) (maxᵛ x m) (λ c. max_comm (p c) x) (max_comm m x) (closes_max up p m x h)
 
--- an infimum on the right of an implication
+-- An infimum on the right of an implication.
 closes_implies : (p : Choices → Value) (m x : Value) → Closes false p m → Closes false (λ c. impliesᵛ x (p c)) (impliesᵛ x m)
 closes_implies p m x h z k = (implies_adjoint x m z).1 (h (minᵛ z x) (λ c. (implies_adjoint x (p c) z).0 (k c)))
 
--- a supremum on the right of a coimplication
+-- A supremum on the right of a coimplication.
 closes_coimplies : (p : Choices → Value) (m x : Value) → zeroᵛ ≤ᵛ p Choices.stop → Closes true p m → Closes true (λ c. coimpliesᵛ x (p c)) (coimpliesᵛ x m)
 closes_coimplies p m x q h z k =
     let r : zeroᵛ ≤ᵛ z = ≤ᵛ_trans zeroᵛ (coimpliesᵛ x (p Choices.stop)) z (coimplies_nonnegative x (p Choices.stop) q) (k Choices.stop) in
@@ -162,7 +162,7 @@ unfolding validateᵛ
 validate_infinite (finite x) z h = absurd (infinite_above x h)
 validate_infinite infinite z h = ≤ᵛ_infinite z
 
--- an infimum under validate
+-- An infimum under validate.
 closes_validate : (p : Choices → Value) (m : Value) → Closes false p m → Closes false (λ c. validateᵛ (p c)) (validateᵛ m)
 closes_validate p m h z k = go (at_most_or_less z zeroᵛ)
   where
@@ -191,7 +191,7 @@ covalidate_zero = rw is_zero-zero
 covalidate_at_zero : (m : Value) → m ≤ᵛ zeroᵛ → zeroᵛ ≤ᵛ m → covalidateᵛ m ≡ zeroᵛ
 covalidate_at_zero m h k = ap covalidateᵛ (≤ᵛ_antisym m zeroᵛ h k) ∙ covalidate_zero
 
--- a supremum under covalidate
+-- A supremum under covalidate.
 closes_covalidate : (p : Choices → Value) (m : Value) → zeroᵛ ≤ᵛ m → Closes true p m → Closes true (λ c. covalidateᵛ (p c)) (covalidateᵛ m)
 closes_covalidate p m q h (finite z) k = subst (λ u. u ≤ᵛ finite z) (sym (covalidate_at_zero m (h zeroᵛ (λ c. covalidate_below (p c) z (k c))) q)) (≤ᵛ_trans zeroᵛ (covalidateᵛ (p Choices.stop)) (finite z) (covalidate_nonnegative (p Choices.stop)) (k Choices.stop))
 closes_covalidate p m q h infinite k = ≤ᵛ_infinite (covalidateᵛ m)
@@ -263,7 +263,7 @@ binder_free_means f s m n = (means_value f s m n, λ e. subst (λ u. Means f s u
 
 -- ---- Forms with binders of one direction
 
--- m bounds the value of each choice, and what bounds these bounds m.
+-- `m` bounds the value of each choice, and every other bound of these values bounds `m`.
 pub record Bests (up : Bool) (f : Form) (s : Env) (m : Value) : Type 0 where
   pub each : (c : Choices) → Compares up m (value f s c)
   pub closes : Closes up (value f s) m
@@ -284,7 +284,7 @@ plain up f s m n h =
       closes = λ z k. subst (λ u. Compares up z u) (sym e) (k Choices.stop);
     }
 
--- two parts, each with choices of its own
+-- Two operands with independent choices.
 closes_both : (up : Bool) (op : Value → Value → Value) (p q : Choices → Value) (m n : Value) → ((y : Value) → Closes up (λ c. op (p c) y) (op m y)) → ((x : Value) → Closes up (λ c. op x (q c)) (op x n)) → (z : Value) → ((c : Choices) → Compares up z (op (p (left c)) (q (right c)))) → Compares up z (op m n)
 closes_both up op p q m n f g z k = g m z (λ d. f (q d) z (λ c. k (Choices.choose (Truth false) c d)))
 
@@ -300,7 +300,7 @@ mapped_bests up op a f s m x e v mono kept h = record {
   closes = λ z l. subst (λ u. Compares up z u) (sym e) (kept h.closes z (λ c. subst (λ u. Compares up z u) (v c) (l c)));
 }
 
--- the right part alone has binders
+-- Only the right operand has binders.
 right_bests : (up : Bool) (op : Value → Value → Value) (a b f : Form) (s : Env) (m : Value) (x y : Value) → m ≡ op x y → x ≡ value a s Choices.stop → has_binder a ≡ false → ((c : Choices) → value f s c ≡ op (value a s (left c)) (value b s (right c))) → ((c : Choices) → Compares up y (value b s c) → Compares up (op x y) (op x (value b s c))) → (Closes up (value b s) y → Closes up (λ c. op x (value b s c)) (op x y)) → Bests up b s y → Bests up f s m
 right_bests up op a b f s m x y e first n v mono kept h = record {
   each = λ c. subst (λ u. Compares up u (value f s c)) (sym e) (subst (λ u. Compares up (op x y) u) (sym (fixed c)) (mono (right c) (h.each (right c))));

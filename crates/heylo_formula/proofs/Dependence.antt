@@ -62,7 +62,7 @@ kept_on w y v s s' a e k = go (w == y) refl
     go true q = refl
     go false q = let p : (y == w) ≡ false = grind arith in e (rw p k)
 
--- environments that agree on the free variables
+-- Environments that agree on the free variables.
 mutual
   pub same_on : (f : Form) (s s' : Env) (c : Choices) → ((y : ℕ) → is_free y f ≡ true → s y ≡ s' y) → value f s c ≡ value f s' c
   same_on (Form.number v) s s' c e = refl
@@ -102,14 +102,13 @@ not_put x y v s b n h = go (x == y) refl
     go true q = let p : x ≡ y = grind arith in absurd (clash b (h p) n)
     go false q = refl
 
--- the value doesn't depend on a variable that isn't free
 pub unfree : (x : ℕ) (f : Form) (v : Val) (s : Env) (c : Choices) → is_free x f ≡ false → value f (put x v s) c ≡ value f s c
 unfree x f v s c n = same_on f (put x v s) s c (λ y k. not_put x y v s (is_free x f) n (λ p. ap (λ z. is_free z f) p ∙ k))
 
 pub unfree_in : (x : ℕ) (g : Cond) (v : Val) (s : Env) (c : Choices) → is_free_in x g ≡ false → holds g (put x v s) c ≡ holds g s c
 unfree_in x g v s c n = same_on_in g (put x v s) s c (λ y k. not_put x y v s (is_free_in x g) n (λ p. ap (λ z. is_free_in z g) p ∙ k))
 
--- a number that doesn't occur isn't free
+-- A variable that does not occur is not free.
 mutual
   pub unused_free : (x : ℕ) (f : Form) → occurs x f ≡ false → is_free x f ≡ false
   unused_free x (Form.number v) h0 = refl
@@ -142,7 +141,7 @@ mutual
   unused_free_in x (Cond.equal a b) h0 = neither (unused_free x a (or_false (occurs x a) (occurs x b) h0).0) (unused_free x b (or_false (occurs x a) (occurs x b) h0).1)
   unused_free_in x (Cond.ite g h k) h0 = neither (unused_free_in x g (or_false (occurs_in x g) ((occurs_in x h) || (occurs_in x k)) h0).0) (neither (unused_free_in x h (or_false (occurs_in x h) (occurs_in x k) (or_false (occurs_in x g) ((occurs_in x h) || (occurs_in x k)) h0).1).0) (unused_free_in x k (or_false (occurs_in x h) (occurs_in x k) (or_false (occurs_in x g) ((occurs_in x h) || (occurs_in x k)) h0).1).1))
 
--- without binders, the value is the same for all choices
+-- Without binders, the value is the same for all choices.
 mutual
   pub unchosen : (f : Form) (s : Env) (c : Choices) → has_binder f ≡ false → value f s c ≡ value f s Choices.stop
   unchosen (Form.number v) s c h0 = refl

@@ -1,4 +1,4 @@
--- The definitions computed at values found by hand.
+-- The definitions, computed for values that were worked out by hand.
 use Rattle.std.proofs.Common.{◌≡◌, refl, Bool, true, false, cond, ◌==◌, ◌&&◌}
 use Rattle.std.specs.Prelude.{pos, negsuc, Some, None}
 use Prim.Native.Nat.{zero, suc}
@@ -26,12 +26,12 @@ three = finite (ratio (pos 3) 1)
 half : Value
 half = finite (ratio (pos 1) 2)
 
--- 1/2 - 3 = -5/2, and infinity has no difference: 0 where it is taken away
+-- 1/2 - 3 = -5/2. There is no difference with infinity: subtracting it yields 0.
 differences : (differenceᵛ half three ≡ finite (ratio (negsuc 4) 2)) × (differenceᵛ half infinite ≡ zeroᵛ) × (differenceᵛ infinite half ≡ infinite) × (differenceᵛ infinite infinite ≡ infinite)
 unfolding half three differenceᵛ ratio gcd gcd_steps negʳ ◌+ʳ◌ ◌-ʳ◌ zeroᵛ zeroʳ
 differences = (refl, refl, refl, refl)
 
--- validate of 0, 1/2 and infinity; covalidate of the same
+-- Validate and covalidate of 0, 1/2 and infinity.
 validations : (validateᵛ zeroᵛ ≡ zeroᵛ) × (validateᵛ half ≡ zeroᵛ) × (validateᵛ infinite ≡ infinite)
 unfolding half validateᵛ zeroᵛ
 validations = (refl, refl, refl)
@@ -46,7 +46,7 @@ comparisons = (refl, refl, refl, refl, refl, refl)
 
 -- ---- Meaning
 
--- the state in which variable 0 is true, and every other one 1/2
+-- The state in which variable 0 is true, and every other one is 1/2.
 state : Env
 state zero = Truth true
 state (suc x) = Num (ratio (pos 1) 2)
@@ -56,7 +56,7 @@ sums_and_products : (value (Form.sum (Form.variable 1) (Form.number three)) stat
 unfolding state three ratio gcd gcd_steps ◌+ʳ◌ ◌*ʳ◌ ◌+ᵛ◌ ◌*ᵛ◌ infinite_times is_zeroʳ zeroʳ zeroᵛ
 sums_and_products = (refl, refl, refl)
 
--- implication is infinity for equal parts, coimplication 0
+-- The implication of equal operands is infinite, the coimplication 0.
 implications : (value (Form.imply (Form.variable 1) (Form.variable 1)) state Choices.stop ≡ infinite) × (value (Form.imply (Form.number three) (Form.variable 1)) state Choices.stop ≡ half) × (value (Form.co_imply (Form.variable 1) (Form.variable 1)) state Choices.stop ≡ zeroᵛ) × (value (Form.co_imply (Form.variable 1) (Form.number three)) state Choices.stop ≡ three)
 unfolding state three half ratio gcd gcd_steps leqʳ leqᵛ impliesᵛ coimpliesᵛ
 implications = (refl, refl, refl, refl)
@@ -73,31 +73,32 @@ chosen_forms : (value (Form.embed (Cond.flag 0)) state Choices.stop ≡ infinite
 unfolding state
 chosen_forms = (refl, refl, refl, refl)
 
--- a binder takes the value that is chosen, or 0 where that isn't of its type; the parts of a sum choose apart
+-- A binder takes the chosen value, or 0 if it is not of its type; the operands of a sum have
+-- independent choices.
 choices : (value (Form.bind true 1 1 Ty.UReal (Form.variable 1)) state (Choices.choose (Num (ratio (pos 3) 1)) Choices.stop Choices.stop) ≡ three) × (value (Form.bind true 1 1 Ty.Bool (Form.iverson (Cond.flag 1))) state (Choices.choose (Truth true) Choices.stop Choices.stop) ≡ oneᵛ) × (value (Form.bind true 1 1 Ty.UInt (Form.variable 1)) state (Choices.choose (Num (ratio (pos 1) 2)) Choices.stop Choices.stop) ≡ zeroᵛ)
 unfolding state three ratio gcd gcd_steps zeroᵛ zeroʳ leqʳ
 choices = (refl, refl, refl)
 
--- ---- Typing: each row of the table accepted, and broken
+-- ---- Typing: each line of the table accepted and violated
 
--- variable 0 is a Bool, 1 an Int, 2 a UInt, and each other one a UReal
+-- Variable 0 is a Bool, 1 an Int, 2 a UInt, and each other one a UReal.
 types : Types
 types zero = Ty.Bool
 types (suc zero) = Ty.Int
 types (suc (suc zero)) = Ty.UInt
 types (suc (suc (suc x))) = Ty.UReal
 
--- whole numbers, negative ones, fractions and infinity; a negative fraction has no type
+-- Nonnegative and negative integers, fractions and infinity; a negative fraction has no type.
 constant_types : (type_of types (Form.number (finite (ratio (pos 3) 1))) ≡ Some NumberType.uint) × (type_of types (Form.number (finite (ratio (negsuc 2) 1))) ≡ Some NumberType.int) × (type_of types (Form.number (finite (ratio (pos 1) 2))) ≡ Some NumberType.ureal) × (type_of types (Form.number infinite) ≡ Some NumberType.eureal) × (type_of types (Form.number (finite (ratio (negsuc 0) 2))) ≡ None)
 unfolding types ratio gcd gcd_steps zeroʳ leqʳ
 constant_types = (refl, refl, refl, refl, refl)
 
--- a Bool is no number
+-- A Bool is no number.
 variable_types : (type_of types (Form.variable 1) ≡ Some NumberType.int) × (type_of types (Form.variable 2) ≡ Some NumberType.uint) × (type_of types (Form.variable 3) ≡ Some NumberType.ureal) × (type_of types (Form.variable 0) ≡ None)
 unfolding types
 variable_types = (refl, refl, refl, refl)
 
--- Int joins UInt, and neither UReal nor EUReal
+-- Int joins UInt, but neither UReal nor EUReal.
 sum_types : (type_of types (Form.sum (Form.variable 1) (Form.variable 2)) ≡ Some NumberType.int) × (type_of types (Form.sum (Form.variable 2) (Form.variable 3)) ≡ Some NumberType.ureal) × (type_of types (Form.sum (Form.variable 3) (Form.embed (Cond.flag 0))) ≡ Some NumberType.eureal) × (type_of types (Form.sum (Form.variable 2) (Form.variable 2)) ≡ Some NumberType.uint) × (type_of types (Form.sum (Form.variable 1) (Form.variable 3)) ≡ None) × (type_of types (Form.sum (Form.embed (Cond.flag 0)) (Form.variable 1)) ≡ None)
 unfolding types
 sum_types = (refl, refl, refl, refl, refl, refl)
@@ -114,7 +115,7 @@ product_types : ((span : Span) → type_of types (Form.product (Form.variable 2)
 unfolding types
 product_types = (λ span. refl, λ span. refl)
 
--- a plain difference is of whole numbers, a truncated one of unsigned finite ones
+-- A plain difference is of integers, a truncated one of unsigned finite numbers.
 difference_types : (type_of types (Form.difference (Form.variable 2) (Form.variable 2)) ≡ Some NumberType.int) × (type_of types (Form.difference (Form.variable 1) (Form.variable 2)) ≡ Some NumberType.int) × (type_of types (Form.difference (Form.variable 3) (Form.variable 2)) ≡ None) × (type_of types (Form.difference (Form.embed (Cond.flag 0)) (Form.embed (Cond.flag 0))) ≡ None)
 unfolding types
 difference_types = (refl, refl, refl, refl)
@@ -123,12 +124,12 @@ cut_types : (type_of types (Form.cut (Form.variable 2) (Form.variable 2)) ≡ So
 unfolding types
 cut_types = (refl, refl, refl, refl)
 
--- a multiple is of an unsigned number, by a factor that is not negative
+-- A multiple is of an unsigned number, with a nonnegative factor.
 scale_types : (type_of types (Form.scale (ratio (pos 1) 2) (Form.variable 2)) ≡ Some NumberType.ureal) × (type_of types (Form.scale (ratio (pos 1) 2) (Form.embed (Cond.flag 0))) ≡ Some NumberType.eureal) × (type_of types (Form.scale (ratio (pos 1) 2) (Form.variable 1)) ≡ None) × (type_of types (Form.scale (ratio (negsuc 0) 2) (Form.variable 2)) ≡ None)
 unfolding types ratio gcd gcd_steps zeroʳ leqʳ
 scale_types = (refl, refl, refl, refl)
 
--- the implications are of unsigned numbers
+-- The implications are of unsigned numbers.
 implication_types : (type_of types (Form.imply (Form.variable 2) (Form.variable 3)) ≡ Some NumberType.eureal) × (type_of types (Form.imply (Form.variable 1) (Form.variable 3)) ≡ None) × (type_of types (Form.imply (Form.variable 3) (Form.variable 1)) ≡ None) × (type_of types (Form.co_imply (Form.variable 2) (Form.embed (Cond.flag 0))) ≡ Some NumberType.eureal) × (type_of types (Form.co_imply (Form.variable 1) (Form.variable 3)) ≡ None) × (type_of types (Form.co_imply (Form.variable 3) (Form.variable 1)) ≡ None)
 unfolding types
 implication_types = (refl, refl, refl, refl, refl, refl)
@@ -145,7 +146,7 @@ select_types : (type_of types (Form.select (Cond.flag 0) (Form.variable 2) (Form
 unfolding types
 select_types = (refl, refl, refl)
 
--- a quantifier is over a formula, in which its variable has its type
+-- A quantifier is over a formula, in which its variable has its type.
 binder_types : (type_of types (Form.bind true 0 0 Ty.UInt (Form.variable 0)) ≡ Some NumberType.eureal) × (type_of types (Form.bind false 0 0 Ty.Int (Form.variable 0)) ≡ None) × (type_of types (Form.bind true 0 0 Ty.Bool (Form.iverson (Cond.flag 0))) ≡ Some NumberType.eureal) × (type_of types (Form.bind true 3 3 Ty.Bool (Form.variable 3)) ≡ None)
 unfolding types
 binder_types = (refl, refl, refl, refl)
@@ -154,7 +155,7 @@ connective_types : (is_well_typed types (Cond.flag 0) ≡ true) × (is_well_type
 unfolding types
 connective_types = (refl, refl, refl, refl, refl, refl, refl, refl, refl, refl, refl, refl, refl, refl)
 
--- comparisons are of finite numbers with a join
+-- Comparisons are of finite numbers whose types have a join.
 comparison_types : (is_well_typed types (Cond.le (Form.variable 1) (Form.variable 2)) ≡ true) × (is_well_typed types (Cond.le (Form.variable 3) (Form.variable 2)) ≡ true) × (is_well_typed types (Cond.le (Form.variable 1) (Form.variable 3)) ≡ false) × (is_well_typed types (Cond.le (Form.variable 3) (Form.embed (Cond.flag 0))) ≡ false) × (is_well_typed types (Cond.lt (Form.variable 1) (Form.variable 2)) ≡ true) × (is_well_typed types (Cond.lt (Form.variable 3) (Form.variable 2)) ≡ true) × (is_well_typed types (Cond.lt (Form.variable 1) (Form.variable 3)) ≡ false) × (is_well_typed types (Cond.lt (Form.variable 3) (Form.embed (Cond.flag 0))) ≡ false) × (is_well_typed types (Cond.equal (Form.variable 1) (Form.variable 2)) ≡ true) × (is_well_typed types (Cond.equal (Form.variable 3) (Form.variable 2)) ≡ true) × (is_well_typed types (Cond.equal (Form.variable 1) (Form.variable 3)) ≡ false) × (is_well_typed types (Cond.equal (Form.variable 3) (Form.embed (Cond.flag 0))) ≡ false)
 unfolding types
 comparison_types = (refl, refl, refl, refl, refl, refl, refl, refl, refl, refl, refl, refl)
@@ -169,7 +170,8 @@ alternative_types = (refl, refl, refl, refl)
 all_numbers : Form
 all_numbers = Form.bind true 2 2 Ty.UInt (Form.variable 2)
 
--- an implication keeps no supremum, nor does validate; no operator keeps one on the left of an implication
+-- Neither an implication nor validate preserves a supremum; no operator preserves one on the left
+-- of an implication.
 directions : (is_directed true all_numbers ≡ true) × (is_directed false all_numbers ≡ false) × (is_directed true (Form.min (Form.sum all_numbers (Form.variable 2)) all_numbers) ≡ true) × (is_directed true (Form.imply (Form.variable 2) all_numbers) ≡ false) × (is_directed true (Form.validate all_numbers) ≡ false) × (is_directed true (Form.co_imply (Form.variable 2) all_numbers) ≡ true) × (is_directed true (Form.co_imply all_numbers (Form.variable 2)) ≡ false) × (is_directed true (Form.co_validate all_numbers) ≡ true)
 unfolding all_numbers
 directions = (refl, refl, refl, refl, refl, refl, refl, refl)
@@ -213,12 +215,13 @@ least_number_means_zero s = record { family = λ v. finite (number_of v); meant 
     above (Truth b) k = absurd (cc)
     above (Num x) k = finite_nonnegative x (record { holds = and_right (x.den == 1) (leqʳ zeroʳ x) k })
 
--- what the acts of a coproc put over a form with suprema: draws, choices, rewards, branches and checks
+-- The operators above suprema in forms that the acts of a coproc generate: draws, choices, rewards,
+-- branches and checks.
 upward_acts : (is_directed true (Form.sum (Form.scale halfʳ all_numbers) (Form.scale halfʳ all_numbers)) ≡ true) × (is_directed true (Form.bind true 5 5 Ty.UInt all_numbers) ≡ true) × (is_directed true (Form.sum all_numbers (Form.variable 2)) ≡ true) × (is_directed true (Form.select (Cond.flag 0) all_numbers all_numbers) ≡ true) × (is_directed true (Form.max all_numbers all_numbers) ≡ true) × (is_directed true (Form.min (Form.variable 2) all_numbers) ≡ true) × (is_directed true (Form.co_imply (Form.variable 2) (Form.co_validate (Form.max (Form.variable 2) all_numbers))) ≡ true)
 unfolding all_numbers
 upward_acts = (refl, refl, refl, refl, refl, refl, refl)
 
--- what those of a proc put over a form with infima
+-- The operators above infima in forms that the acts of a proc generate.
 downward_acts : (is_directed false (Form.sum (Form.scale halfʳ least_number) (Form.scale halfʳ least_number)) ≡ true) × (is_directed false (Form.bind false 5 5 Ty.UInt least_number) ≡ true) × (is_directed false (Form.select (Cond.flag 0) least_number least_number) ≡ true) × (is_directed false (Form.min least_number least_number) ≡ true) × (is_directed false (Form.max (Form.variable 2) least_number) ≡ true) × (is_directed false (Form.imply (Form.variable 2) (Form.validate (Form.min (Form.variable 2) least_number))) ≡ true) × (is_directed false (Form.co_imply (Form.variable 2) least_number) ≡ false) × (is_directed false (Form.co_validate least_number) ≡ false)
 unfolding least_number
 downward_acts = (refl, refl, refl, refl, refl, refl, refl, refl)

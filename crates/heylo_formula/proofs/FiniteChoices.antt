@@ -1,4 +1,4 @@
--- A form whose binders are over Bool has a meaning: the greater or the smaller of two.
+-- A form whose binders are over Bool has a meaning: the larger or the smaller of two values.
 use Rattle.std.proofs.Common.{◌≡◌, ℕ, refl, Bool, true, false, cond}
 use Rattle.std.specs.Prelude.{◌↔◌}
 use Rattle.heyvl_num.specs.Value.{Value, ◌+ᵛ◌, ◌*ᵛ◌}

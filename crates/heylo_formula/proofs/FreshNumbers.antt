@@ -1,4 +1,5 @@
--- The fresh number of a binder is the least unused one.
+-- The fresh number of a binder is the least unused one. The idea: different numbers occur at
+-- different nodes, so there are more candidates than numbers that are taken.
 use Rattle.std.proofs.Common.{◌≡◌, ℕ, ◌+◌, ◌≤◌, ◌<◌, refl, sym, ap, ◌∙◌, arith, Bool, true, false, cond, ◌==◌, ◌||◌, inl, inr, ◌⊎◌}
 use Prim.Native.Nat.{zero, suc}
 use Rattle.heylo_formula.specs.Formula.{Form, Cond, Term}
@@ -6,7 +7,7 @@ use Rattle.heylo_formula.specs.Variables.{occurs, occurs_in, occurs_in_term}
 use Rattle.heylo_formula.specs.Sizes.{nodes, nodes_in, nodes_in_term}
 use Rattle.heylo_formula.specs.Substitution.{least_unused, fresh, IsFresh}
 
--- how often a number occurs
+-- How often a number occurs.
 abbrev mutual
   places : ℕ → Form → ℕ
   places x (Form.number v) = 0
@@ -54,7 +55,7 @@ either : (a b : Bool) (m n : ℕ) → (a ≡ true → 1 ≤ m) → (b ≡ true �
 either true b m n h k e = let l = h refl in omega arith
 either false b m n h k e = let l = k e in omega arith
 
--- a number that occurs has a place
+-- A number that occurs has at least one place.
 mutual
   placed : (x : ℕ) (f : Form) → occurs x f ≡ true → 1 ≤ places x f
   placed x (Form.number v) h0 = absurd (cc)
@@ -87,7 +88,7 @@ mutual
   placed_in x (Cond.equal a b) h0 = either (occurs x a) (occurs x b) (places x a) (places x b) (placed x a) (placed x b) h0
   placed_in x (Cond.ite g h k) h0 = either (occurs_in x g) ((occurs_in x h) || (occurs_in x k)) (places_in x g) ((places_in x h) + (places_in x k)) (placed_in x g) (either (occurs_in x h) (occurs_in x k) (places_in x h) (places_in x k) (placed_in x h) (placed_in x k)) h0
 
--- the sum over k numbers from m on
+-- The sum of a function over `k` numbers from `m` on.
 abbrev along : (ℕ → ℕ) → ℕ → ℕ → ℕ
 along g m zero = 0
 along g m (suc k) = g m + along g (m + 1) k
@@ -112,7 +113,7 @@ along-one w m (suc k) = go (m == w) refl (along-one w (m + 1) k)
     go true e h = let p = passed w (m + 1) k (let q : m ≡ w = grind arith in omega arith) in omega arith
     go false e h = omega arith
 
--- different numbers have different nodes
+-- Different numbers have different nodes.
 mutual
   within : (m k : ℕ) (f : Form) → along (λ x. places x f) m k ≤ nodes f
   within m k0 (Form.number v) = let e = along-zero m k0 in omega arith
@@ -153,7 +154,7 @@ placed_in_term : (x : ℕ) (t : Term) → occurs_in_term x t ≡ true → 1 ≤ 
 placed_in_term x (Term.truth g) h = placed_in x g h
 placed_in_term x (Term.number f) h = placed x f h
 
--- whether a number is taken by the body or by the term
+-- The number occurs in the body or in the term.
 abbrev pub is_taken : Form → Term → ℕ → Bool
 is_taken a t n = occurs n a || occurs_in_term n t
 
@@ -166,7 +167,7 @@ taken_once a t n h = either (occurs n a) (occurs_in_term n t) (places n a) (plac
 taken_within : (a : Form) (t : Term) (m k : ℕ) → along (taken a t) m k ≤ nodes a + nodes_in_term t
 taken_within a t m k = let e = along-+ (λ n. places n a) (λ n. places_in_term n t) m k in let p = within m k a in let q = within_term m k t in omega arith
 
--- the search: either an unused number is found, or all that were tried are taken
+-- The search finds an unused number, or all numbers that it tried are taken.
 found : (k n : ℕ) (a : Form) (t : Term) → (is_taken a t (least_unused k n a t) ≡ false) ⊎ ((least_unused k n a t ≡ n + k) × (k ≤ along (taken a t) n k))
 unfolding least_unused
 found zero n a t = inr (omega arith, omega arith)
@@ -218,7 +219,7 @@ pub fresh_is : (a : Form) (t : Term) → IsFresh a t (fresh a t)
 unfolding fresh
 fresh_is a t = record { unused = unused_found 1048576 a t; from = search_from (nodes a + nodes_in_term t) 1048576 a t; least = search_least (nodes a + nodes_in_term t) 1048576 a t }
 
--- a search that has come to n: what is left to try gives the fresh number
+-- A search that has reached `n`: the remaining steps yield the fresh number.
 pub record Searching (a : Form) (t : Term) (n : ℕ) : Type 0 where
   pub left : ℕ
   pub reached : n + left ≡ 1048576 + (nodes a + nodes_in_term t)

@@ -1,4 +1,4 @@
--- The plain tree of each kind of node is the plain node over the plain trees of its parts.
+-- The plain tree of each kind of node is the plain node of the plain trees of its subtrees.
 use Rattle.std.proofs.Common.{◌≡◌, ℕ, Bool, sym, ap, ◌∙◌, refl}
 use Rattle.std.specs.declared.boxed.Box.{Box}
 use Rattle.std.specs.declared.alloc.Global.{Global}

@@ -1,4 +1,4 @@
--- A form means one value at most.
+-- A form means at most one value.
 use Rattle.std.proofs.Common.{◌≡◌, sym, ap, ap₂, ◌∙◌, subst, Bool, true, false}
 use Rattle.heyvl_num.specs.Value.{Value, ◌+ᵛ◌, ◌*ᵛ◌}
 use Rattle.heyvl_num.specs.Value.Value.{finite}
@@ -22,7 +22,7 @@ compares_both : (up : Bool) (x y : Value) → Compares up x y → Compares up y 
 compares_both true x y h k = ≤ᵛ_antisym x y k h
 compares_both false x y h k = ≤ᵛ_antisym x y h k
 
--- the best of one family bounds that of an equal one
+-- The best of a family bounds the best of an equal one.
 bounds : (up : Bool) (ty : Ty) (u u' : Val → Value) (m n : Value) → IsBest up ty u m → IsBest up ty u' n → ((v : Val) → has ty v ≡ true → u v ≡ u' v) → Compares up n m
 bounds up ty u u' m n h k e = (h n).1 (λ v p. subst (λ w. Compares up n w) (sym (e v p)) ((k n).0 (compares_self up n) v p))
 

@@ -1,4 +1,4 @@
--- The value of a renamed formula is the value in the renamed state.
+-- The value of a renamed form is the value in the renamed state.
 use Rattle.std.proofs.Common.{◌≡◌, ℕ, ◌+◌, refl, sym, ap, ap₂, ◌∙◌, arith, Bool, true, false, not, cond, ◌==◌, ◌||◌, ◌&&◌}
 use Rattle.heyvl_num.specs.Value.{zeroᵛ, oneᵛ, leqᵛ, ◌+ᵛ◌, ◌*ᵛ◌}
 use Rattle.heyvl_num.specs.Value.Value.{finite, infinite}
@@ -38,7 +38,7 @@ renamed_bind y z w a v s c e ih = go (y == w) refl
     go true q = ap (λ r. value a r c) (sym (put_again y w v (s z) s q))
     go false q = ih (put w v s) ∙ ap (λ u. value a (put y u (put w v s)) c) (other z w v s e) ∙ ap (λ r. value a r c) (put_commute y w v (s z) s q)
 
--- a renamed form, where the new number doesn't occur
+-- A renamed form, if the new number does not occur.
 mutual
   pub renamed_value : (y z : ℕ) (f : Form) (s : Env) (c : Choices) → occurs z f ≡ false → value (renamed y z f) s c ≡ value f (put y (s z) s) c
   renamed_value y z (Form.number v) s c h0 = refl

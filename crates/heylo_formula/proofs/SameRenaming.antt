@@ -1,4 +1,4 @@
--- A variable that is renamed to itself leaves a tree as it is.
+-- Renaming a variable to itself does not change a tree.
 use Rattle.std.proofs.Common.{◌≡◌, ℕ, refl, sym, ap, ap₂, ◌∙◌, arith, Bool, true, false, cond, ◌==◌}
 use Rattle.std.specs.Prelude.{Result, Ok, Err, IfOk, if◌then◌else◌}
 use Rattle.std.specs.declared.alloc.AllocError.{AllocError}
@@ -62,7 +62,8 @@ mutual
   renamed_same_in z (Cond.equal a b) = ap₂ (λ p q. Cond.equal p q) (renamed_same z a) (renamed_same z b)
   renamed_same_in z (Cond.ite g h k) = ap₂ (λ p (q : Cond × Cond). Cond.ite p q.0 q.1) (renamed_same_in z g) (ap₂ (λ p q. (p, q)) (renamed_same_in z h) (renamed_same_in z k))
 
--- what a binder's body becomes, where it is renamed to itself under a binder of the variable
+-- The body of a binder in which the variable is renamed, or renamed to itself if the binder binds
+-- it.
 pub renamed_under : (y z w : ℕ) (a : Form) → renamed (if y == w then z else y) z a ≡ (if y == w then a else renamed y z a)
 renamed_under y z w a = go (y == w)
   where
@@ -70,14 +71,14 @@ renamed_under y z w a = go (y == w)
     go true = renamed_same z a
     go false = refl
 
--- what a renaming makes of a binder
+-- The result of renaming a binder.
 pub bind_under : (y z : ℕ) (f : F.Form) (up : Bool) (w name : ℕ) (ty : Ty) (a l : Box F.Form Global) (d : F.Form) (n : ℕ) → f ≡ F.Bind up w name ty a → d ≡ a.value → n ≡ (if y == w then z else y) → form_of l.value ≡ renamed n z (form_of d) → form_of (F.Bind up w name ty l) ≡ renamed y z (form_of f)
 bind_under y z f up w name ty a l d n e k u h =
     bind_form up w name ty l
     ∙ ap (λ p. Form.bind up w name ty p) (h ∙ ap (λ m. renamed m z (form_of d)) u ∙ renamed_under y z w (form_of d) ∙ ap (λ g. cond (y == w) (form_of g) (renamed y z (form_of g))) k)
     ∙ sym (ap (λ g. renamed y z (form_of g)) e ∙ ap (λ g. renamed y z g) (bind_form up w name ty a))
 
--- what a renaming of a variable to itself gives is a copy
+-- Renaming a variable to itself yields a copy.
 pub copied : (f : Form) (r : Result F.Form AllocError) → IfOk r (λ form. form_of form ≡ renamed 0 0 f) → IfOk r (λ form. form_of form ≡ f)
 copied f (Ok form) h = h ∙ renamed_same 0 f
 copied f (Err e) h = h

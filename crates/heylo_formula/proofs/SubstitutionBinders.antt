@@ -1,4 +1,5 @@
--- A substitution of a term without binders keeps where binders stand.
+-- A substitution of a term without binders keeps the binders of a form, and the operators above
+-- them.
 use Rattle.std.proofs.Common.{◌≡◌, ℕ, refl, ap, ap₂, ◌∙◌, Bool, true, false, not, cond, ◌==◌, ◌&&◌, ◌||◌}
 use Prim.Native.Nat.{zero, suc}
 use Rattle.heylo_formula.specs.Operators.{agree}
@@ -61,7 +62,7 @@ mutual
   renamed_binder_in y z (Cond.equal a b) = ap₂ (λ p q. p || q) (renamed_binder y z a) (renamed_binder y z b)
   renamed_binder_in y z (Cond.ite g h k) = ap₂ (λ p q. p || q) (renamed_binder_in y z g) (ap₂ (λ p q. p || q) (renamed_binder_in y z h) (renamed_binder_in y z k))
 
--- a weight keeps its shape
+-- A weight stays a weight.
 leaf_number : (b : Bool) (z w : ℕ) → is_number (cond b (Form.variable z) (Form.variable w)) ≡ false
 leaf_number true z w = refl
 leaf_number false z w = refl
@@ -198,7 +199,7 @@ or_second : (p q : Bool) → q ≡ true → (p || q) ≡ true
 or_second true q e = refl
 or_second false q e = e
 
--- without binders, every direction is kept
+-- Without binders, a form is directed both ways.
 and_neither : (p q r s : Bool) → (p || q) ≡ false → (p ≡ false → r ≡ true) → (q ≡ false → s ≡ true) → (r && s) ≡ true
 and_neither true q r s e f g = absurd (cc)
 and_neither false q r s e f g = rw (f refl, g e)

@@ -1,4 +1,4 @@
--- What a substitution that succeeds gives has the value in the changed state.
+-- The result of a successful substitution has the value of the form in the changed state.
 use Rattle.std.proofs.Common.{◌≡◌, ℕ, ap, ◌∙◌}
 use Rattle.std.specs.Prelude.{Result, Ok, Err, IfOk}
 use Rattle.std.specs.declared.alloc.AllocError.{AllocError}

@@ -1,4 +1,4 @@
--- What a substitution makes of each kind of node.
+-- The result of a substitution in each kind of node.
 use Rattle.std.proofs.Common.{◌≡◌, ℕ, ◌<◌, refl, ap, ap₂, arith, cond, ◌==◌, ◌&&◌}
 use Prim.Native.Nat.{zero, suc}
 use Rattle.heylo_formula.specs.Formula.{Form, Cond, Term}
@@ -50,8 +50,6 @@ settle n x t f h = steady n (suc (nodes f)) x t f h (omega arith)
 settle_in : (n x : ℕ) (t : Term) (g : Cond) → nodes_in g < n → subst_within_in n x t g ≡ subst_in x t g
 unfolding subst_in
 settle_in n x t g h = steady_in n (suc (nodes_in g)) x t g h (omega arith)
-
--- what a substitution makes of each kind of node
 
 pub subst_number : (x : ℕ) (t : Term) (v : _) → subst x t (Form.number v) ≡ Form.number v
 unfolding subst

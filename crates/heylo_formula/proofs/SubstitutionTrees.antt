@@ -1,4 +1,4 @@
--- What the code makes of each kind of node is what a substitution makes of it.
+-- The result of the code for each kind of node is that of the substitution.
 use Rattle.std.proofs.Common.{◌≡◌, ℕ, ◌+◌, Bool, true, false, cond, ◌==◌, ◌&&◌, sym, ap, ap₂, ◌∙◌, arith}
 use Rattle.std.specs.Prelude.{Result, Ok, Err, IfOk}
 use Rattle.std.specs.declared.alloc.AllocError.{AllocError}
@@ -108,11 +108,11 @@ equal x w h = grind arith
 bind_step : (x : ℕ) (t : Term) (f : F.Form) (up : Bool) (w name : ℕ) (ty : Ty) (a : Box F.Form Global) → f ≡ F.Bind up w name ty a → subst x t (form_of f) ≡ cond (x == w) (Form.bind up w name ty (form_of a.value)) (cond (occurs_in_term w t && is_free x (form_of a.value)) (Form.bind up (fresh (form_of a.value) t) name ty (subst x t (renamed w (fresh (form_of a.value) t) (form_of a.value)))) (Form.bind up w name ty (subst x t (form_of a.value))))
 bind_step x t f up w name ty a e = ap (λ g. subst x t (form_of g)) e ∙ ap (subst x t) (bind_form up w name ty a) ∙ subst_bind x t up w name ty (form_of a.value)
 
--- a binder of the variable is left alone
+-- A binder of the variable is kept as it is.
 pub bind_left : (x : ℕ) (t : Term) (f : F.Form) (up : Bool) (w name : ℕ) (ty : Ty) (a l : Box F.Form Global) (d : F.Form) → f ≡ F.Bind up w name ty a → x ≡ w → d ≡ a.value → form_of l.value ≡ form_of d → form_of (F.Bind up w name ty l) ≡ subst x t (form_of f)
 bind_left x t f up w name ty a l d e q k er = bind_form up w name ty l ∙ ap (Form.bind up w name ty) (er ∙ ap form_of k) ∙ sym (ap (λ b. cond b (Form.bind up w name ty (form_of a.value)) (cond (occurs_in_term w t && is_free x (form_of a.value)) (Form.bind up (fresh (form_of a.value) t) name ty (subst x t (renamed w (fresh (form_of a.value) t) (form_of a.value)))) (Form.bind up w name ty (subst x t (form_of a.value))))) (equal x w q)) ∙ sym (bind_step x t f up w name ty a e)
 
--- a binder that captures is renamed, another one stays
+-- A binder that captures is renamed, another one is kept.
 bind_put : (x : ℕ) (t : Term) (f : F.Form) (up : Bool) (w name : ℕ) (ty : Ty) (a : Box F.Form Global) (z : ℕ) (body : Form) (l : Box F.Form Global) → f ≡ F.Bind up w name ty a → (x == w) ≡ false → cond (occurs_in_term w t && is_free x (form_of a.value)) (Form.bind up (fresh (form_of a.value) t) name ty (subst x t (renamed w (fresh (form_of a.value) t) (form_of a.value)))) (Form.bind up w name ty (subst x t (form_of a.value))) ≡ Form.bind up z name ty body → form_of l.value ≡ body → form_of (F.Bind up z name ty l) ≡ subst x t (form_of f)
 bind_put x t f up w name ty a z body l e n h k = bind_form up z name ty l ∙ ap (Form.bind up z name ty) k ∙ sym h ∙ sym (ap (λ b. cond b (Form.bind up w name ty (form_of a.value)) (cond (occurs_in_term w t && is_free x (form_of a.value)) (Form.bind up (fresh (form_of a.value) t) name ty (subst x t (renamed w (fresh (form_of a.value) t) (form_of a.value)))) (Form.bind up w name ty (subst x t (form_of a.value))))) n) ∙ sym (bind_step x t f up w name ty a e)
 

@@ -302,7 +302,7 @@ both_true a b h k = rw (h, k)
 keep_and : (a b a' b' : Bool) → (a ≡ true → a' ≡ true) → (b ≡ true → b' ≡ true) → (a && b) ≡ true → (a' && b') ≡ true
 keep_and a b a' b' f g h = both_true a' b' (f (and_true a b h).0) (g (and_true a b h).1)
 
--- ---- What a type depends on
+-- ---- The variables on which a type depends
 
 or_left : (a b : Bool) → a ≡ true → (a || b) ≡ true
 or_left a b h = rw h
@@ -360,7 +360,6 @@ not_retyped x y ty m b n h = go (x == y) refl
     go true q = let p : x ≡ y = grind arith in absurd (clash b (h p) n)
     go false q = refl
 
--- the type of a variable that isn't free doesn't matter
 unfree_type : (x : ℕ) (f : Form) (ty : Ty) (m : Types) → is_free x f ≡ false → type_of (retyped x ty m) f ≡ type_of m f
 unfree_type x f ty m n = same_types f (retyped x ty m) m (λ y k. not_retyped x y ty m (is_free x f) n (λ p. ap (λ z. is_free z f) p ∙ k))
 
@@ -444,7 +443,7 @@ mutual
   renamed_truth y z (Cond.equal a b) m h = ap₂ (λ p q. is_finite_type (joined p q)) (renamed_type y z a m (or_false (occurs z a) (occurs z b) h).0) (renamed_type y z b m (or_false (occurs z a) (occurs z b) h).1)
   renamed_truth y z (Cond.ite g h1 k1) m h = let k = or_false (occurs_in z g) ((occurs_in z h1) || (occurs_in z k1)) h in let l = or_false (occurs_in z h1) (occurs_in z k1) k.1 in ap₂ (λ p q. p && q) (renamed_truth y z g m k.0) (ap₂ (λ p q. p && q) (renamed_truth y z h1 m l.0) (renamed_truth y z k1 m l.1))
 
--- ---- A substitution for a variable that isn't free changes nothing
+-- ---- Substitutions for a variable that is not free
 
 kept_leaf : (x w : ℕ) (t : Term) → (x == w) ≡ false → cond (x == w) (as_form t) (Form.variable w) ≡ Form.variable w
 kept_leaf x w t h = rw h
@@ -499,7 +498,7 @@ mutual
 
 -- ---- Substitution
 
--- a term fits where its variables have the same types
+-- A term fits if its variables have the same types.
 term_kept : (z : ℕ) (t : Term) (ty v : Ty) (m : Types) → occurs_in_term z t ≡ false → TermFits m v t → TermFits (retyped z ty m) v t
 term_kept z (Term.truth g) ty v m n h = (h.0, unfree_truth z g ty m (unused_free_in z g n) ∙ h.1)
 term_kept z (Term.number f) ty v m n h = (h.0, subst (λ u. fits u (number_type v) ≡ true) (sym (unfree_type z f ty m (unused_free z f n))) h.1)
@@ -536,7 +535,7 @@ fitting_term x z t ty m n o h = subst (λ b. TermFits (retyped z ty m) (cond b t
 retyped_here : (z : ℕ) (ty : Ty) (m : Types) → retyped z ty m z ≡ ty
 retyped_here z ty m = let k : (z == z) ≡ true = grind arith in rw k
 
--- the body of a renamed binder
+-- The body of a renamed binder.
 renamed_fits : (w z : ℕ) (ty : Ty) (a : Form) (m : Types) → occurs z a ≡ false → type_of (retyped z ty m) (renamed w z a) ≡ type_of (retyped w ty m) a
 renamed_fits w z ty a m h = renamed_type w z a (retyped z ty m) h ∙ ap (λ v. type_of (retyped w v (retyped z ty m)) a) (retyped_here z ty m) ∙ same_types a (retyped w ty (retyped z ty m)) (retyped w ty m) (λ y k. ap (λ v. cond (w == y) ty v) (not_retyped z y ty m (is_free z a) (unused_free z a h) (λ p. ap (λ u. is_free u a) p ∙ k)))
 
@@ -589,7 +588,7 @@ mutual
   fitted_in (suc n) x t (Cond.equal a b) m h l e = keep_finite (joined (type_of m a) (type_of m b)) _ (keep_join (type_of m a) (type_of m b) _ _ (fitted n x t a m h (omega arith)) (fitted n x t b m h (omega arith))) e
   fitted_in (suc n) x t (Cond.ite g k k1) m h l e = keep_and (is_well_typed m g) (is_well_typed m k && is_well_typed m k1) _ _ (fitted_in n x t g m h (omega arith)) (keep_and (is_well_typed m k) (is_well_typed m k1) _ _ (fitted_in n x t k m h (omega arith)) (fitted_in n x t k1 m h (omega arith))) e
 
--- a substitution of a fitting term keeps the type, or makes it narrower
+-- A substitution of a fitting term keeps the type, or narrows it.
 pub subst_fits : (types : Types) (x : ℕ) (t : Term) (f : Form) → TermFits types (types x) t → fits (type_of types (Replaced.subst x t f)) (type_of types f) ≡ true
 unfolding Replaced.subst
 subst_fits types x t f h = fitted (suc (nodes f)) x t f types h (omega arith)

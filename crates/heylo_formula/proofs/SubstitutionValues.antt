@@ -1,4 +1,4 @@
--- The value of a substituted formula is the value in the changed state.
+-- The value of a form after a substitution is its value in the changed state.
 use Rattle.std.proofs.Common.{◌≡◌, ℕ, ◌<◌, refl, sym, ap, ap₂, ◌∙◌, arith, Bool, true, false, not, cond, ◌==◌, ◌||◌, ◌&&◌, inl, inr, ◌⊎◌}
 use Prim.Native.Nat.{zero, suc}
 use Rattle.heyvl_num.specs.Value.{Value, zeroᵛ, oneᵛ, leqᵛ, ◌+ᵛ◌, ◌*ᵛ◌}
@@ -19,7 +19,7 @@ use Rattle.heylo_formula.specs.Substitution.{renamed, fresh, as_form, as_cond, s
 use Rattle.heylo_formula.proofs.RenamedValues.{renamed_value, same_nodes}
 use Rattle.heylo_formula.proofs.FreshNumbers.{fresh_is}
 
--- what a plain term stands for has the term's value, for all choices
+-- The form that replaces a variable has the term's value, for all choices.
 a_number : (v : Value) → is_finite v ≡ true → v ≡ finite (finite_part v)
 a_number (finite x) e = refl
 a_number infinite e = absurd (cc)
@@ -58,7 +58,7 @@ and_true : (a b : Bool) → (a && b) ≡ true → (a ≡ true) × (b ≡ true)
 and_true true b h = (refl, h)
 and_true false b h = absurd (cc)
 
--- a free number is another than one that does not occur
+-- A free variable differs from one that does not occur.
 apart : (x z : ℕ) (a : Form) → is_free x a ≡ true → occurs z a ≡ false → (x == z) ≡ false
 apart x z a h k = go (x == z) refl
   where
@@ -69,7 +69,7 @@ apart x z a h k = go (x == z) refl
 put_here : (x z : ℕ) (u v : Val) (s : Env) → (x == z) ≡ false → put x u (put z v s) z ≡ v
 put_here x z u v s e = let k : (z == z) ≡ true = grind arith in rw (e, k)
 
--- a renamed binder: the body's value, where the new number is put beneath
+-- A renamed binder: the value of the body with the new variable.
 moved : (x w z : ℕ) (a : Form) (t : Term) (v : Val) (s : Env) (c : Choices) → is_free x a ≡ true → occurs z a ≡ false → occurs_in_term z t ≡ false → value (renamed w z a) (put x (term_value t (put z v s)) (put z v s)) c ≡ value a (put w v (put x (term_value t s) s)) c
 moved x w z a t v s c h k l =
     ap (λ u. value (renamed w z a) (put x u (put z v s)) c) (unread z t v s l)
@@ -80,7 +80,7 @@ moved x w z a t v s c h k l =
     swapped : (y z : ℕ) → (y == z) ≡ false → (z == y) ≡ false
     swapped y z e = grind arith
 
--- a binder that keeps its number
+-- A binder that keeps its variable.
 stayed : (x w : ℕ) (a : Form) (t : Term) (v : Val) (s : Env) (c : Choices) → (x == w) ≡ false → (occurs_in_term w t ≡ false) ⊎ (is_free x a ≡ false) → value a (put x (term_value t (put w v s)) (put w v s)) c ≡ value a (put w v (put x (term_value t s) s)) c
 stayed x w a t v s c e (inl h) = ap (λ u. value a (put x u (put w v s)) c) (unread w t v s h) ∙ ap (λ r. value a r c) (put_commute x w v (term_value t s) s e)
 stayed x w a t v s c e (inr h) = unfree x a _ (put w v s) c h ∙ sym (unfree x a (term_value t s) (put w v s) c h) ∙ ap (λ r. value a r c) (put_commute x w v (term_value t s) s e)
@@ -127,7 +127,6 @@ mutual
   substituted_in (suc n) x t (Cond.equal a b) s c p0 h0 = ap₂ (λ p q. equalᵛ p q) (substituted n x t a s (left c) p0 (omega arith)) (substituted n x t b s (right c) p0 (omega arith))
   substituted_in (suc n) x t (Cond.ite g h k) s c p0 h0 = three (substituted_in n x t g s (left c) p0 (omega arith)) (substituted_in n x t h s (right c) p0 (omega arith)) (substituted_in n x t k s (right c) p0 (omega arith))
 
--- the value of a substituted form, for every choice
 pub subst_value : (x : ℕ) (t : Term) (f : Form) (s : Env) (c : Choices) → IsPlain t → value (subst x t f) s c ≡ value f (put x (term_value t s) s) c
 unfolding subst
 subst_value x t f s c p = substituted (suc (nodes f)) x t f s c p (omega arith)

@@ -1,4 +1,4 @@
--- The values of well-typed forms: which are finite, and that formulas aren't negative.
+-- The values of well-typed forms: which are finite, and that formulas are nonnegative.
 use Rattle.std.proofs.Common.{◌≡◌, ℕ, refl, Bool, true, false, cond, ◌==◌, ◌&&◌}
 use Rattle.std.specs.Prelude.{Option, Some, None}
 use Rattle.heyvl_num.specs.Rational.{ratio, zeroʳ, leqʳ, ◌-ʳ◌}
@@ -110,7 +110,7 @@ and_both : (a b : Bool) → (a && b) ≡ true → (a ≡ true) × (b ≡ true)
 and_both true b h = (refl, h)
 and_both false b h = absurd (cc)
 
--- the parts of a formula are formulas
+-- The operands of a formula are formulas.
 pub joined_parts : (t u : Option NumberType) → is_unsigned (joined t u) ≡ true → (is_unsigned t ≡ true) × (is_unsigned u ≡ true)
 joined_parts = joined_unsigned
 
@@ -169,7 +169,6 @@ finite_max : (x y : Value) → is_finite x ≡ true → is_finite y ≡ true →
 unfolding maxᵛ
 finite_max x y h k = finite_either (leqᵛ x y) y x k h
 
--- a form of Int, UInt or UReal is finite in every state
 pub finite_value : (types : Types) (f : Form) (s : Env) (c : Choices) → is_finite_type (type_of types f) ≡ true → is_finite (value f s c) ≡ true
 finite_value types (Form.number (finite x)) s c h = refl
 finite_value types (Form.number infinite) s c h = absurd (cc)
@@ -190,7 +189,7 @@ finite_value types (Form.iverson g) s c h = finite_either (holds g s c) oneᵛ z
 finite_value types (Form.select g a b) s c h = let p = joined_finite (type_of types a) (type_of types b) (only_finite _ _ h) in finite_either (holds g s (left c)) _ _ (finite_value types a s (right c) p.0) (finite_value types b s (right c) p.1)
 finite_value types (Form.bind up x name ty a) s c h = endless _ h
 
--- ---- Values that aren't negative
+-- ---- Nonnegative values
 
 either : (b : Bool) (x y : Value) → zeroᵛ ≤ᵛ x → zeroᵛ ≤ᵛ y → zeroᵛ ≤ᵛ cond b x y
 either true x y h k = h
@@ -259,7 +258,6 @@ default_has Ty.Int = (and_both (zeroʳ.den == 1) (leqʳ zeroʳ zeroʳ) zero_whol
 default_has Ty.UInt = zero_whole
 default_has Ty.UReal = (and_both (zeroʳ.den == 1) (leqʳ zeroʳ zeroʳ) zero_whole).1
 
--- what stands for a value is of the type, and a value of the type stands for itself
 pub fit_has : (ty : Ty) (v : Val) → has ty (fit ty v) ≡ true
 fit_has ty v = go (has ty v) refl
   where
@@ -270,7 +268,6 @@ fit_has ty v = go (has ty v) refl
 pub fit_same : (ty : Ty) (v : Val) → has ty v ≡ true → fit ty v ≡ v
 fit_same ty v h = rw h
 
--- a variable changed to a value of a type
 pub put_typed : (types : Types) (s : Env) (x : ℕ) (ty : Ty) (v : Val) → HasTypes types s → has ty v ≡ true → HasTypes (retyped x ty types) (put x v s)
 put_typed types s x ty v h k = record { typed = λ y. go y (x == y) }
   where
@@ -278,7 +275,6 @@ put_typed types s x ty v h k = record { typed = λ y. go y (x == y) }
     go y true = k
     go y false = h.typed y
 
--- a formula isn't negative
 pub nonnegative_value : (types : Types) (f : Form) (s : Env) (c : Choices) → is_unsigned (type_of types f) ≡ true → HasTypes types s → zeroᵛ ≤ᵛ value f s c
 nonnegative_value types (Form.number v) s c h e = constant_nonnegative v h
 nonnegative_value types (Form.variable x) s c h e = variable_nonnegative (types x) (s x) h (e.typed x)

@@ -1,4 +1,4 @@
--- Lemmas that are meant for the proofs of other crates. All else in proofs/ is private to this crate.
+-- Lemmas for the proofs of other crates. All other proofs are private to this crate.
 pub mod Shifts
 pub mod Plain
 pub mod TypedTerms

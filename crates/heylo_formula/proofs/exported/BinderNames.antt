@@ -1,4 +1,5 @@
--- Meant for the proofs of other crates. Renaming and substitution keep the names and the types of binders.
+-- For the proofs of other crates: renaming and substitution keep the names and the types of
+-- binders.
 use Rattle.std.proofs.Common.{◌≡◌, ℕ, refl, ap, ap₂, ◌∙◌, Bool, true, false, cond, ◌==◌, ◌&&◌, ◌||◌, List, [], ◌∷◌, ◌++◌}
 use Prim.Native.Nat.{zero, suc}
 use Rattle.heylo_formula.specs.Formula.{Form, Cond, Term}
@@ -110,7 +111,6 @@ mutual
   names_within_in (suc n) x t p q (Cond.equal a b) = ap₂ (λ (m : List Binder) n. m ++ n) (names_within n x t p q a) (names_within n x t p q b)
   names_within_in (suc n) x t p q (Cond.ite g h k) = ap₂ (λ (m : List Binder) n. m ++ n) (names_within_in n x t p q g) (ap₂ (λ (m : List Binder) n. m ++ n) (names_within_in n x t p q h) (names_within_in n x t p q k))
 
--- a term without binders leaves the binders as they are
 pub names_subst : (x : ℕ) (t : Term) → binders (as_form t) ≡ [] → binders_in (as_cond t) ≡ [] → (f : Form) → binders (Replaced.subst x t f) ≡ binders f
 unfolding Replaced.subst
 names_subst x t p q f = names_within (suc (nodes f)) x t p q f
@@ -119,7 +119,6 @@ pub names_subst_in : (x : ℕ) (t : Term) → binders (as_form t) ≡ [] → bin
 unfolding Replaced.subst_in
 names_subst_in x t p q g = names_within_in (suc (nodes_in g)) x t p q g
 
--- a form without binders has none to name
 mutual
   pub unnamed : (f : Form) → has_binder f ≡ false → binders f ≡ []
   unnamed (Form.number v) h0 = refl
@@ -156,6 +155,5 @@ plain_names : (t : Term) → IsPlain t → (binders (as_form t) ≡ []) × (bind
 plain_names (Term.truth g) h = (refl, unnamed_in g h)
 plain_names (Term.number f) h = (unnamed f h.0, refl)
 
--- so does a plain term
 pub names_plain : (x : ℕ) (t : Term) (f : Form) → IsPlain t → binders (Replaced.subst x t f) ≡ binders f
 names_plain x t f h = let p = plain_names t h in names_subst x t p.0 p.1 f

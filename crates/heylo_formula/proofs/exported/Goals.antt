@@ -1,4 +1,4 @@
--- Meant for the proofs of other crates. What goals depend on, and of which states they speak.
+-- For the proofs of other crates: what goals depend on, and the states that they quantify over.
 use Rattle.std.proofs.Common.{◌≡◌, ◌<◌, ℕ, sym, subst, true}
 use Rattle.std.specs.Prelude.{length}
 use Rattle.heylo_formula.specs.State.{Env, has, environment, listed}

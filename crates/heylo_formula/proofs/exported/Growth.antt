@@ -1,4 +1,5 @@
--- Meant for the proofs of other crates. Renaming keeps nodes and depth; a substitution makes a form no smaller.
+-- For the proofs of other crates: renaming keeps nodes and depth, and a substitution makes a form
+-- no smaller.
 use Rattle.std.proofs.Common.{◌≡◌, ℕ, ◌≤◌, ◌+◌, refl, ap, ap₂, arith, Bool, true, false, cond, ◌==◌, ◌&&◌, max}
 use Prim.Native.Nat.{zero, suc}
 use Rattle.heylo_formula.specs.Formula.{Form, Cond, Term}

@@ -1,4 +1,4 @@
--- Meant for the proofs of other crates. Validate and covalidate keep the order and the sign.
+-- For the proofs of other crates: validate and covalidate are monotone and nonnegative.
 use Rattle.std.proofs.Common.{◌≡◌, refl, sym, ap, subst, Bool, true, false, cond, ◌⊎◌, inl, inr}
 use Rattle.heyvl_num.specs.Rational.{zeroʳ}
 use Rattle.heyvl_num.specs.Value.{Value, zeroᵛ, is_zeroʳ, ◌≤ᵛ◌}

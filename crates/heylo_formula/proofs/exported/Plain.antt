@@ -1,5 +1,5 @@
--- Meant for the proofs of other crates. Well-typed conditions, forms of finite types and terms that fit a variable have no
--- binder; the join of two unsigned types is unsigned.
+-- For the proofs of other crates: well-typed conditions, forms of finite types and terms that fit a
+-- variable have no binder; the join of two unsigned types is unsigned.
 use Rattle.std.proofs.Common.{◌≡◌, refl, Bool, true, false, ◌&&◌}
 use Rattle.std.specs.Prelude.{Option, Some, None}
 use Rattle.heylo_formula.specs.Formula.{Form, Cond, Term}
@@ -81,7 +81,6 @@ scale_finite (Some NumberType.ureal) h = refl
 scale_finite (Some NumberType.eureal) h = absurd (cc)
 scale_finite None h = absurd (cc)
 
--- a form of a finite type, and a well-typed condition, have no binder
 mutual
   pub finite_plain : (types : Types) (f : Form) → is_finite_type (type_of types f) ≡ true → has_binder f ≡ false
   finite_plain types (Form.number v) h = refl
@@ -132,7 +131,6 @@ narrow_finite Ty.UReal (Some NumberType.ureal) b h = refl
 narrow_finite Ty.UReal (Some NumberType.eureal) b h = absurd (cc)
 narrow_finite Ty.UReal None b h = absurd (cc)
 
--- a term that fits a variable is plain
 pub term_plain : (types : Types) (ty : Ty) (t : Term) → TermFits types ty t → IsPlain t
 term_plain types ty (Term.truth g) h = typed_plain types g h.1
 term_plain types ty (Term.number f) h = let k = narrow_finite ty (type_of types f) h.0 h.1 in (finite_plain types f k, λ s. finite_value types f s Choices.stop k)

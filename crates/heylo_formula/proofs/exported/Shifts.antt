@@ -1,5 +1,4 @@
--- Meant for the proofs of other crates. What a formula whose variables are numbered anew keeps: value, type, binders, size and
--- free variables.
+-- For the proofs of other crates: value, type, binders, size and free variables of a shifted form.
 use Rattle.std.proofs.Common.{◌≡◌, ◌≤◌, ◌<◌, ℕ, ◌+◌, ◌-◌, refl, sym, ap, ap₂, ◌∙◌, subst, arith, Bool, true, false, not, cond, ◌==◌, ◌&&◌, ◌||◌, ◌⊎◌, inl, inr, max}
 use Rattle.std.specs.Prelude.{Option, Some}
 use Rattle.heyvl_num.specs.Rational.{zeroʳ, leqʳ}

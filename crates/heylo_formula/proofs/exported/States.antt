@@ -1,4 +1,5 @@
--- Meant for the proofs of other crates. Typed states: lists of values, the environments that they are, and values that fit.
+-- For the proofs of other crates: typed states, which are lists of values, their environments, and
+-- values that fit a type.
 use Rattle.std.proofs.Common.{◌≡◌, ◌≢◌, ◌<◌, ◌+◌, ℕ, refl, sym, ap, ◌∙◌, subst, arith, true, false, cond, ◌==◌, ◌⊎◌, inl, inr, List, [], ◌∷◌, ◌++◌}
 use Rattle.std.specs.Prelude.{length, get_or, set, eqb}
 use Rattle.std.proofs.lemmas.Bool.Decides.{eqb_tells}
@@ -19,7 +20,6 @@ length-typed [] s h = ap length h
 length-typed (t ∷ tys) [] h = absurd h
 length-typed (t ∷ tys) (v ∷ s) h = ap suc (length-typed tys s h.1)
 
--- the environment of a changed list is the changed environment, within the list
 pub set_is_put : (s : List Val) (x : ℕ) (v : Val) → x < length s → environment (set s x v) ≡ put x v (environment s)
 set_is_put s x v h = fun_ext (λ y. go y (eqb_tells x y))
   where
@@ -33,7 +33,6 @@ env_at (t ∷ tys) [] h y = absurd h
 env_at (t ∷ tys) (v ∷ s) h zero = h.0
 env_at (t ∷ tys) (v ∷ s) h (suc y) = env_at tys s h.1 y
 
--- a typed list is a typed environment
 pub env_typed : (tys : List Ty) (s : List Val) → IsTyped tys s → HasTypes (types_in tys) (environment s)
 env_typed tys s h = record { typed = env_at tys s h }
 
@@ -55,12 +54,10 @@ listed_same zero s y h = absurd (omega arith)
 listed_same (suc n) s zero h = refl
 listed_same (suc n) s (suc y) h = listed_same n (λ y. s (suc y)) y (omega arith)
 
--- the first values of an environment that is typed so far are a typed list
 pub listed_typed : (tys : List Ty) (s : Env) → ((y : ℕ) → y < length tys → has (types_in tys y) (s y) ≡ true) → IsTyped tys (listed (length tys) s)
 listed_typed [] s h = refl
 listed_typed (t ∷ tys) s h = (h 0 (omega arith), listed_typed tys (λ y. s (suc y)) (λ y k. h (suc y) (omega arith)))
 
--- two typed lists, one after the other
 pub typed_append : (tys us : List Ty) (s t : List Val) → IsTyped tys s → IsTyped us t → IsTyped (tys ++ us) (s ++ t)
 typed_append [] us s t h k = subst (λ l. IsTyped us (l ++ t)) (sym h) k
 typed_append (ty ∷ tys) us [] t h k = absurd h

@@ -1,5 +1,5 @@
--- Meant for the proofs of other crates. Where the free variables of a substitution's result come from, and how many nodes the
--- result has.
+-- For the proofs of other crates: the free variables and the number of nodes of the result of a
+-- substitution.
 use Rattle.std.proofs.Common.{◌≡◌, ℕ, ◌<◌, ◌+◌, refl, sym, ap, ap₂, ◌∙◌, subst, arith, Bool, true, false, cond, ◌==◌, ◌&&◌, ◌||◌, ◌⊎◌, inl, inr}
 use Prim.Native.Nat.{zero, suc}
 use Rattle.heylo_formula.specs.Formula.{Form, Cond, Term}
@@ -18,7 +18,7 @@ pub use Rattle.heylo_formula.proofs.SubstitutionValues.{subst_value, subst_value
 pub use Rattle.heylo_formula.proofs.SubstitutionSteps.{substitutions}
 pub use Rattle.heylo_formula.proofs.FreshNumbers.{fresh_is}
 
--- ---- Where the variable isn't free
+-- ---- Variables that are not free
 
 pub kept_subst : (x : ℕ) (t : Term) (f : Form) → is_free x f ≡ false → Replaced.subst x t f ≡ f
 unfolding Replaced.subst
@@ -37,7 +37,7 @@ or_right : (a b : Bool) → b ≡ true → (a || b) ≡ true
 or_right true b h = refl
 or_right false b h = h
 
--- one of the two is true
+-- One of the two is true.
 abbrev One : Bool → Bool → Type 0
 One a b = (a ≡ true) ⊎ (b ≡ true)
 
@@ -45,7 +45,7 @@ one_of : (a b : Bool) → (a || b) ≡ true → One a b
 one_of true b h = inl refl
 one_of false b h = inr h
 
--- what two parts come from
+-- A disjunction over two operands.
 from_two : (a b a' b' o : Bool) → (a' ≡ true → One a o) → (b' ≡ true → One b o) → (a' || b') ≡ true → One (a || b) o
 from_two a b a' b' o f g h = go (one_of a' b' h)
   where
@@ -90,7 +90,7 @@ not_bound false b h = (refl, h)
 unbound : (t b : Bool) → t ≡ false → b ≡ true → cond t false b ≡ true
 unbound t b h k = rw (h, k)
 
--- a free variable of a renamed form is the new number, or another one than the old, and free in the form
+-- A free variable of a renamed form is the new one, or it is free in the form and not the old one.
 abbrev Other : ℕ → ℕ → Bool → Type 0
 Other y w b = (b ≡ true) × ((y == w) ≡ false)
 
@@ -227,7 +227,6 @@ mutual
   free_within_in (suc n) x y t (Cond.equal a b) h0 = from_two (is_free y a) (is_free y b) (is_free y (subst_within n x t a)) (is_free y (subst_within n x t b)) (occurs_in_term y t) (free_within n x y t a) (free_within n x y t b) h0
   free_within_in (suc n) x y t (Cond.ite g h k) h0 = from_two (is_free_in y g) (is_free_in y h || is_free_in y k) (is_free_in y (subst_within_in n x t g)) ((is_free_in y (subst_within_in n x t h)) || (is_free_in y (subst_within_in n x t k))) (occurs_in_term y t) (free_within_in n x y t g) (from_two (is_free_in y h) (is_free_in y k) (is_free_in y (subst_within_in n x t h)) (is_free_in y (subst_within_in n x t k)) (occurs_in_term y t) (free_within_in n x y t h) (free_within_in n x y t k)) h0
 
--- a free variable of the result is free in the form, or occurs in the term
 pub free_subst : (x y : ℕ) (t : Term) (f : Form) → is_free y (Replaced.subst x t f) ≡ true → (is_free y f ≡ true) ⊎ (occurs_in_term y t ≡ true)
 unfolding Replaced.subst
 free_subst x y t f h = free_within (suc (nodes f)) x y t f h
@@ -250,7 +249,7 @@ subst_over_in n x t g e k y h = go (free_subst_in x y t g h)
     go (inl p) = e y p
     go (inr p) = k y p
 
--- ---- How many nodes the result has
+-- ---- The number of nodes of the result
 
 renamed_leaf : (x y z w m k : ℕ) → (x == y) ≡ false → (x == z) ≡ false → nodes_put x m k (cond (y == w) (Form.variable z) (Form.variable w)) ≡ cond (x == w) m 1
 renamed_leaf x y z w m k h l = go (y == w) refl
@@ -330,7 +329,7 @@ and_right : (a b : Bool) → (a && b) ≡ true → b ≡ true
 and_right true b h = h
 and_right false b h = absurd (cc)
 
--- a fresh number is another one than that of a free variable
+-- A fresh variable differs from each free variable.
 fresh_other : (x : ℕ) (a : Form) (t : Term) → is_free x a ≡ true → (x == fresh a t) ≡ false
 fresh_other x a t h = go (x == fresh a t) refl
   where
@@ -383,7 +382,6 @@ mutual
   count_within_in (suc n) x t (Cond.equal a b) h0 = let pa : nodes a < n = omega arith in let pb : nodes b < n = omega arith in ap₂ (λ p q. 1 + (p + q)) (count_within n x t a pa) (count_within n x t b pb)
   count_within_in (suc n) x t (Cond.ite g h k) h0 = let pg : nodes_in g < n = omega arith in let ph : nodes_in h < n = omega arith in let pk : nodes_in k < n = omega arith in ap₂ (λ p q. 1 + (p + q)) (count_within_in n x t g pg) (ap₂ (λ (p : ℕ) q. p + q) (count_within_in n x t h ph) (count_within_in n x t k pk))
 
--- the nodes of the result, counted without it
 pub count_subst : (x : ℕ) (t : Term) (f : Form) → nodes (Replaced.subst x t f) ≡ nodes_put x (nodes (as_form t)) (nodes_in (as_cond t)) f
 unfolding Replaced.subst
 count_subst x t f = count_within (suc (nodes f)) x t f (omega arith)

@@ -1,5 +1,5 @@
--- Meant for the proofs of other crates. A form of Int or UInt has a whole number as its value, and a term that fits a type
--- has a value of it, where the variables have values of their types.
+-- For the proofs of other crates: a form of Int or UInt has an integer value, and a term that fits
+-- a type has a value of it, if the variables have values of their types.
 use Rattle.std.proofs.Common.{◌≡◌, ℕ, refl, sym, subst, arith, Bool, true, false, cond, ◌==◌, ◌&&◌}
 use Rattle.std.specs.Prelude.{Option, Some, None}
 use Rattle.heyvl_num.specs.Rational.{zeroʳ, leqʳ}
@@ -26,7 +26,7 @@ whole_difference (finite x) (finite y) h k = difference_whole x y h k
 whole_difference (finite x) infinite h k = absurd k
 whole_difference infinite y h k = absurd h
 
--- ---- Types of whole numbers
+-- ---- Types of integers
 
 joined_whole : (t u : Option NumberType) → is_whole_type (joined t u) ≡ true → (is_whole_type t ≡ true) × (is_whole_type u ≡ true)
 joined_whole (Some NumberType.int) (Some NumberType.int) h = (refl, refl)
@@ -101,7 +101,6 @@ variable_whole Ty.UInt (Truth b) h k = absurd (cc)
 variable_whole Ty.UInt (Num x) h k = equal_is x.den (and_both (x.den == 1) (leqʳ zeroʳ x) k).0
 variable_whole Ty.UReal v h k = absurd (cc)
 
--- a form of Int or UInt has a whole number as its value
 pub whole_value : (types : Types) (f : Form) (s : Env) (c : Choices) → HasTypes types s → is_whole_type (type_of types f) ≡ true → IsWhole (value f s c)
 whole_value types (Form.number v) s c e h = constant_whole v h
 whole_value types (Form.variable x) s c e h = variable_whole (types x) (s x) h (e.typed x)
