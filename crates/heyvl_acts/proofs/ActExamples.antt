@@ -1,4 +1,4 @@
--- What acts mean, computed by hand for each kind of act, and for three small procedures.
+-- The meaning of acts, worked out by hand for each kind of act, and for three small procedures.
 use Rattle.std.proofs.Common.{◌≡◌, refl, ℕ, Bool, true, false, List, [], ◌∷◌}
 use Rattle.std.specs.Prelude.{pos, negsuc, Option, Some, None, ℤ}
 use Prim.Native.Nat.{zero, suc}
@@ -42,7 +42,7 @@ only a = Acts.next a Acts.done
 abbrev chosen : Val → Choices → Choices → Choices
 chosen v a b = Choices.choose v a b
 
--- A value's numerator and denominator in lowest terms; none for infinity.
+-- The numerator and the denominator of a value in lowest terms; none for infinity.
 abbrev shown : Value → Option (ℤ × ℕ)
 shown (finite q) = Some (q.num, q.den)
 shown infinite = None
@@ -54,7 +54,7 @@ state (suc zero) = Num (ratio (negsuc 1) 1)
 state (suc (suc zero)) = Num (whole 3)
 state (suc (suc (suc x))) = Num (ratio (pos 1) 2)
 
--- The post: the UInt plus the UReal, which is 7/2 here.
+-- The post: the UInt plus the UReal, which is 7/2 in this state.
 abbrev post : Form
 post = Form.sum (Form.variable 2) (Form.variable 3)
 
@@ -65,17 +65,19 @@ no_acts : after Acts.done Choices.stop ≡ finite (ratio (pos 7) 2)
 unfolding after state ratio gcd gcd_steps ◌+ʳ◌ ◌+ᵛ◌
 no_acts = refl
 
--- The Int, the UInt and the Bool are set; a UInt set to 5 gives 11/2.
+-- The Int, the UInt and the Bool are assigned; a UInt of 5 yields 11/2.
 assignments : (after (only (Act.set 2 (Term.number (at 5)) nowhere)) Choices.stop ≡ finite (ratio (pos 11) 2)) × (after (only (Act.set 1 (Term.number (Form.variable 2)) nowhere)) Choices.stop ≡ finite (ratio (pos 7) 2)) × (after (only (Act.set 0 (Term.truth (Cond.constant false)) nowhere)) Choices.stop ≡ finite (ratio (pos 7) 2))
 unfolding after state ratio gcd gcd_steps ◌+ʳ◌ ◌+ᵛ◌
 assignments = (refl, refl, refl)
 
--- 1/2, 1/4 and 1/4 for the UInt to be 0, 2 and 4: the expected UInt is 3/2, and with the UReal 2.
+-- The UInt is 0, 2 or 4 with the probabilities 1/2, 1/4 and 1/4: its expected value is 3/2, and
+-- with the UReal 2.
 three_parts : shown (after (only (Act.draw 2 ((ratio (pos 1) 2, Term.number (at 0)) ∷ (ratio (pos 1) 4, Term.number (at 2)) ∷ (ratio (pos 1) 4, Term.number (at 4)) ∷ []) nowhere)) Choices.stop) ≡ Some (pos 2, 1)
 unfolding after state ratio gcd gcd_steps ◌+ʳ◌ ◌*ʳ◌ ◌+ᵛ◌ ◌*ᵛ◌ infinite_times is_zeroʳ zeroʳ zeroᵛ
 three_parts = refl
 
--- A toss of 1/3 where the Bool holds and of 2 where not, then of 1 and of 0: true counts 1, false 4.
+-- A toss with probability 1/3 if the Bool holds and 2 otherwise, then with 1 and 0: true yields 1,
+-- false 4.
 abbrev by_flag : Form → Form → Form
 by_flag a b = Form.select (Cond.flag 0) a b
 
@@ -86,17 +88,17 @@ tosses : (tossed (Form.number (finite (ratio (pos 1) 3))) (at 2) true ≡ Some (
 unfolding tossed state ratio gcd gcd_steps ◌+ʳ◌ ◌-ʳ◌ ◌*ʳ◌ negʳ leqʳ leqᵛ minᵛ ◌+ᵛ◌ ◌*ᵛ◌ infinite_times is_zeroʳ zeroʳ oneʳ zeroᵛ oneᵛ
 tosses = (refl, refl, refl, refl)
 
--- Any UInt: the choice, upward and downward; a choice of another kind is 0.
+-- A havoc of a UInt: the chosen value, upward and downward; a choice of another kind counts as 0.
 any_values : (after (only (Act.any 2 true Ty.UInt nowhere)) (chosen (Num (whole 9)) Choices.stop Choices.stop) ≡ finite (ratio (pos 19) 2)) × (after (only (Act.any 2 false Ty.UInt nowhere)) (chosen (Num (whole 9)) Choices.stop Choices.stop) ≡ finite (ratio (pos 19) 2)) × (after (only (Act.any 2 true Ty.UInt nowhere)) (chosen (Truth true) Choices.stop Choices.stop) ≡ finite (ratio (pos 1) 2))
 unfolding after state ratio gcd gcd_steps ◌+ʳ◌ ◌+ᵛ◌ leqʳ zeroʳ
 any_values = (refl, refl, refl)
 
--- A reward of 2, and one of infinity.
+-- A reward of 2, and an infinite one.
 rewards : (after (only (Act.reward (at 2) nowhere)) Choices.stop ≡ finite (ratio (pos 11) 2)) × (after (only (Act.reward (Form.number infinite) nowhere)) Choices.stop ≡ infinite)
 unfolding after state ratio gcd gcd_steps ◌+ʳ◌ ◌+ᵛ◌
 rewards = (refl, refl)
 
--- The first arm whose guard holds: the second of two; and the else where none does.
+-- The first arm whose guard holds: the second of two; and the else if no guard holds.
 abbrev arms : Cond → Arms
 arms g = Arms.arm (Cond.constant false) (only (Act.set 2 (Term.number (at 10)) nowhere)) (Arms.arm g (only (Act.set 2 (Term.number (at 20)) nowhere)) Arms.no_arm)
 
@@ -104,17 +106,18 @@ branches : (after (only (Act.ifs (arms (Cond.flag 0)) (only (Act.set 2 (Term.num
 unfolding after state ratio gcd gcd_steps ◌+ʳ◌ ◌+ᵛ◌
 branches = (refl, refl)
 
--- The greater and the smaller of two blocks.
+-- The larger and the smaller of two blocks.
 picks : (after (only (Act.pick true (only (Act.set 2 (Term.number (at 1)) nowhere)) (only (Act.set 2 (Term.number (at 2)) nowhere)) nowhere)) Choices.stop ≡ finite (ratio (pos 5) 2)) × (after (only (Act.pick false (only (Act.set 2 (Term.number (at 1)) nowhere)) (only (Act.set 2 (Term.number (at 2)) nowhere)) nowhere)) Choices.stop ≡ finite (ratio (pos 3) 2))
 unfolding after state ratio gcd gcd_steps ◌+ʳ◌ ◌+ᵛ◌ leqʳ leqᵛ maxᵛ minᵛ
 picks = (refl, refl)
 
--- Each check of 3 before 7/2, and of 4 before 7/2.
+-- Each check of 3 with the post 7/2, and of 4 with the post 7/2.
 checks : (after (only (Act.check CheckKind.Assert (at 3) nowhere)) Choices.stop ≡ of 3) × (after (only (Act.check CheckKind.Assume (at 3) nowhere)) Choices.stop ≡ infinite) × (after (only (Act.check CheckKind.Assume (at 4) nowhere)) Choices.stop ≡ finite (ratio (pos 7) 2)) × (after (only (Act.check CheckKind.CoAssert (at 4) nowhere)) Choices.stop ≡ of 4) × (after (only (Act.check CheckKind.CoAssume (at 4) nowhere)) Choices.stop ≡ zeroᵛ) × (after (only (Act.check CheckKind.CoAssume (at 3) nowhere)) Choices.stop ≡ finite (ratio (pos 7) 2))
 unfolding after state ratio gcd gcd_steps ◌+ʳ◌ ◌+ᵛ◌ leqʳ leqᵛ maxᵛ minᵛ impliesᵛ coimpliesᵛ zeroᵛ zeroʳ
 checks = (refl, refl, refl, refl, refl, refl)
 
--- validate of 7/2 is 0, covalidate infinity; before an assumption that is infinite, validate is infinity.
+-- The validate of 7/2 is 0, the covalidate infinity; with an assumption as post that is infinite,
+-- validate is infinity.
 validations : (after (only (Act.validate false nowhere)) Choices.stop ≡ zeroᵛ) × (after (only (Act.validate true nowhere)) Choices.stop ≡ infinite) × (after (Acts.next (Act.validate false nowhere) (only (Act.check CheckKind.Assume (at 3) nowhere))) Choices.stop ≡ infinite)
 unfolding after state ratio gcd gcd_steps ◌+ʳ◌ ◌+ᵛ◌ leqʳ leqᵛ impliesᵛ validateᵛ covalidateᵛ is_zeroʳ zeroᵛ zeroʳ
 validations = (refl, refl, refl)
@@ -140,7 +143,8 @@ a_coin : shown (forward (only (flip 0)) (value (Form.iverson (Cond.flag 0))) sta
 unfolding state ratio gcd gcd_steps ◌+ʳ◌ ◌*ʳ◌ ◌+ᵛ◌ ◌*ᵛ◌ infinite_times is_zeroʳ zeroʳ oneʳ zeroᵛ oneᵛ
 a_coin = refl
 
--- Whoever guesses after the coin is thrown guesses right: true after heads and false after tails give 1, false for both 1/2.
+-- A guess after a fair coin toss: guessing true after heads and false after tails is right with
+-- probability 1, guessing false after both with probability 1/2.
 abbrev guess : Acts
 guess = Acts.next (flip 0) (only (Act.any 1 true Ty.Bool nowhere))
 
@@ -151,34 +155,35 @@ guesses : (shown (forward guess (value right_guess) state (chosen (Truth false) 
 unfolding state ratio gcd gcd_steps ◌+ʳ◌ ◌*ʳ◌ ◌+ᵛ◌ ◌*ᵛ◌ infinite_times is_zeroʳ zeroʳ oneʳ zeroᵛ oneᵛ
 guesses = (refl, refl)
 
--- Behind a coassumption of infinity any upper bound holds.
+-- After a coassumption of infinity, any upper bound holds.
 vacuous : forward (only (Act.check CheckKind.CoAssume (Form.embed (Cond.constant true)) nowhere)) (value (at 5)) state Choices.stop ≡ zeroᵛ
 unfolding coimpliesᵛ leqᵛ ratio gcd gcd_steps zeroᵛ zeroʳ
 vacuous = refl
 
--- The smaller of a UInt set to 1 and set to 2 is 1.
+-- The smaller of a UInt that is set to 1 and to 2 is 1.
 smaller_block : shown (forward (only (Act.pick false (only (Act.set 2 (Term.number (at 1)) nowhere)) (only (Act.set 2 (Term.number (at 2)) nowhere)) nowhere)) (value (Form.variable 2)) state Choices.stop) ≡ Some (pos 1, 1)
 unfolding state ratio gcd gcd_steps leqʳ leqᵛ minᵛ
 smaller_block = refl
 
 -- ---- Places, modified variables, counts and lengths
 
--- An If's arms come before its else, an act before those inside it.
+-- The arms of an `if` precede its else, and an act precedes the acts in it.
 abbrev nested : Acts
 nested = Acts.next (Act.ifs (Arms.arm (Cond.flag 0) (only (Act.validate true nowhere)) Arms.no_arm) (only (Act.validate false nowhere)) nowhere) (Acts.next (Act.loop head (Acts.next (flip 0) (only (Act.set 3 (Term.number (at 1)) nowhere)))) (only (Act.reward (at 1) nowhere)))
 
 places : (nth (in_order nested) 1 ≡ Some (Act.validate true nowhere)) × (nth (in_order nested) 2 ≡ Some (Act.validate false nowhere)) × (nth (in_order nested) 4 ≡ Some (flip 0)) × (nth (in_order nested) 6 ≡ Some (Act.reward (at 1) nowhere)) × (nth (in_order nested) 7 ≡ None)
 places = (refl, refl, refl, refl, refl)
 
--- Variable 3 isn't in the loop's scope.
+-- Variable 3 is not in the scope of the loop.
 modified_variables : modified head.scope (Acts.next (flip 0) (only (Act.set 3 (Term.number (at 1)) nowhere))) ≡ 0 ∷ []
 modified_variables = refl
 
--- A toss's target is modified, and none of the variables of its formula.
+-- The target of a toss is modified; the variables of its form are not.
 modified_by_toss : modified head.scope (only (Act.toss 1 (by_flag (at 1) (at 0)) nowhere)) ≡ 1 ∷ []
 modified_by_toss = refl
 
--- The If has 1 arm and 2 statements; the loop two checks, a havoc, a validation, an If and two copies of 2 + 2 statements.
+-- The if has 1 arm and 2 statements; the loop has two checks, a havoc, a validation, an if and two
+-- copies of 2 + 2 statements.
 counts : (count_of nested ≡ 17) × (count_of (only (Act.call (0 ∷ []) 0 (Term.truth (Cond.flag 0) ∷ Term.truth (Cond.flag 0) ∷ []) nowhere)) ≡ 7)
 counts = (refl, refl)
 

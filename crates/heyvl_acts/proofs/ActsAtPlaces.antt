@@ -1,4 +1,4 @@
--- The act at a place, in lists of acts in a row.
+-- The act at a place, in appended lists of acts.
 use Rattle.std.proofs.Common.{◌≡◌, ℕ, Bool, ◌+◌, ◌<◌, ◌≤◌, refl, ap, sym, subst, ◌∙◌, arith, List, [], ◌∷◌, ◌++◌, length, get_or}
 use Rattle.std.proofs.lemmas.List.{drop_all, length-append}
 use Rattle.std.proofs.lemmas.Option.{none-some}
@@ -35,11 +35,11 @@ nth_none (y ∷ xs) n = ap (λ m. nth (y ∷ xs) m) (further (length xs) n) ∙ 
 pub start : (acts : List Act) (place : ℕ) → Behind acts place acts place
 start acts place = record { same = refl; apart = omega arith }
 
--- What is found in the first part is found in both.
+-- An act that is found in the first list is found in both.
 pub found_first : (acts : List Act) (place : ℕ) (xs ys : List Act) (left : ℕ) (a : Bor A.Act) → Behind acts place (xs ++ ys) left → Finds xs left (Ok a) → Finds acts place (Ok a)
 found_first acts place xs ys left a b h = b.same ∙ nth_first xs ys left (act_of a.now) h
 
--- Behind the first part.
+-- The place is after the first list.
 pub past_first : (acts : List Act) (place : ℕ) (xs ys : List Act) (left rest : ℕ) → Behind acts place (xs ++ ys) left → Finds xs left (Err rest) → Behind acts place ys rest
 past_first acts place xs ys left rest b h = record {
   same = b.same ∙ (ap (λ n. nth (xs ++ ys) n) h ∙ nth_second xs ys rest);
@@ -50,7 +50,7 @@ pub finds_rest : (acts : List Act) (place : ℕ) (rest : List Act) (left : ℕ) 
 finds_rest acts place rest left (Ok a) b h = b.same ∙ h
 finds_rest acts place rest left (Err n) b h = let e = b.apart in omega (arith, e, h)
 
--- The rest of a loop over acts, and over arms.
+-- The acts that remain in a loop over acts, and over arms.
 pub no_act : (acts : List A.Act) (k : ℕ) → length acts ≤ k → acts_from acts k ≡ []
 no_act acts k over = ap (λ l. in_order (acts_of l)) (drop_all k acts over)
 

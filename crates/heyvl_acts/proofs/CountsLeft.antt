@@ -1,4 +1,4 @@
--- Counts that stand still at a ceiling, of acts and arms in a row.
+-- Counts up to a ceiling, for sequences of acts and of arms.
 use Rattle.heylo_formula.specs.declared.forms.Cond as C
 use Rattle.heyvl_acts.proofs.exported.PlainActsAre.{head_of, if_act}
 use Rattle.heyvl_acts.specs.Acts.{Act}
@@ -13,7 +13,7 @@ use Rattle.std.proofs.lemmas.List.{at_drop_more, drop_all}
 use Rattle.std.specs.Prelude.{Vec, min}
 use Rattle.std.specs.declared.alloc.Global.{Global}
 
--- How many statements the acts, and the arms, from a place on have.
+-- The number of statements of the acts, and of the arms, from the index `k` on.
 abbrev pub acts_left : List A.Act → ℕ → ℕ
 acts_left acts k = count_of (acts_of (drop k acts))
 
@@ -35,7 +35,7 @@ no_arm arms k over = ap (λ l. count_of_arms (arms_of l)) (drop_all k arms over)
 pub if_count : (a : A.Act) (arms : Vec (C.Cond × Vec A.Act Global) Global) (other : Vec A.Act Global) (span : Span) → a ≡ A.If arms other span → arms_left arms.items 0 + count_of (acts_of other.items) ≡ count_of_act (act_of a)
 if_count a arms other span is = sym (ap (λ y. count_of_act (act_of y)) is ∙ ap count_of_act (if_act arms other span))
 
--- What is counted and what is left, against the whole.
+-- The statements that are counted and those that are left, compared with all.
 pub record Counts (all total left : ℕ) : Type 0 where
   pub below : total ≤ 1025
   pub same : min 1025 (total + left) ≡ min 1025 all

@@ -1,4 +1,4 @@
--- An If that is copied.
+-- Copies of an `if`.
 use Rattle.std.proofs.Common.{◌≡◌, ℕ, ◌≤◌, ap, sym, ◌∙◌, List, map, length, take}
 use Rattle.std.specs.Prelude.{Vec}
 use Rattle.std.specs.declared.alloc.Global.{Global}

@@ -1,4 +1,4 @@
--- Choices for what follows an act are part of choices for the whole.
+-- Given choices for the post of an act, some choices for the whole yield the same value.
 use Rattle.std.proofs.Common.{◌≡◌, ℕ, refl, ap, Bool, true, false, cond, List, [], ◌∷◌}
 use Prim.Native.Nat.{suc}
 use Rattle.heyvl_num.specs.Rational.{Rational}

@@ -1,4 +1,4 @@
--- What is a target, of acts and arms in a row.
+-- The targets of sequences of acts and of arms.
 use Rattle.heylo_formula.specs.declared.forms.Cond as C
 use Rattle.heyvl_acts.proofs.exported.PlainActsAre.{if_act}
 use Rattle.heyvl_acts.specs.Acts.{Acts}
@@ -20,7 +20,7 @@ next_act x acts k a lt is = at_drop_more (λ l. is_target_of x (acts_of l)) acts
 pub no_act : (x : ℕ) (acts : List A.Act) (k : ℕ) → length acts ≤ k → is_target_of x (acts_of (drop k acts)) ≡ false
 no_act x acts k over = ap (λ l. is_target_of x (acts_of l)) (drop_all k acts over)
 
--- Of arms and what stands behind them.
+-- The targets of arms and of the acts after them.
 abbrev pub arms_from : ℕ → List (C.Cond × Vec A.Act Global) → ℕ → List A.Act → Bool
 arms_from x arms k other = is_target_of_arms x (arms_of (drop k arms)) || is_target_of x (acts_of other)
 
@@ -40,7 +40,7 @@ no_arm x arms k other over = ap (λ l. is_target_of_arms x (arms_of l) || is_tar
 pub if_start : (x : ℕ) (a : A.Act) (arms : Vec (C.Cond × Vec A.Act Global) Global) (other : Vec A.Act Global) (span : Span) → a ≡ A.If arms other span → arms_from x arms.items 0 other.items ≡ is_target_of_act x (act_of a)
 if_start x a arms other span is = sym (ap (λ y. is_target_of_act x (act_of y)) is ∙ ap (is_target_of_act x) (if_act arms other span))
 
--- Behind a first one that is no target, and at one that is.
+-- After an act that is no target, and at one that is.
 pub past : (all b r : Bool) → (b || r) ≡ all → b ≡ false → r ≡ all
 past all true r e h = absurd (cc)
 past all false r e h = e

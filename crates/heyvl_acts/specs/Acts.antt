@@ -1,4 +1,5 @@
--- Acts and procedures, as plain trees: what a procedure does, with variables, procedures and loops by number.
+-- Acts and typed procedures, as plain trees. An *act* is a statement of a procedure in which
+-- variables, procedures and loops are numbers.
 use Rattle.std.specs.Prelude.{ℕ, Bool, List, [], ◌∷◌, ◌++◌, Option, Some, None, map}
 use Prim.Native.Nat.{zero, suc}
 use Rattle.heyvl_num.specs.Rational.{Rational}
@@ -10,8 +11,8 @@ pub use Rattle.heylo_formula.specs.NamedVariables.{Variable}
 use Rattle.heylo_formula.specs.Typing.{Types, types_in}
 use Rattle.heylo_formula.specs.declared.types.Ty.{Ty}
 
--- A loop without its body: its number, the number of copies of its body, its invariant, its guard, its ranking with the
--- step, the variables that are visible at it, and its place.
+-- The head of a loop: its number, the number of copies of its body in the encoding, its invariant,
+-- its guard, its ranking with the step, the variables that are visible at the loop, and its place.
 pub record Head : Type 0 where
   pub number : ℕ
   pub k : ℕ
@@ -22,7 +23,7 @@ pub record Head : Type 0 where
   pub span : Span
 
 mutual
-  -- One step of a procedure, with its place in the file.
+  -- An act, with its place in the file.
   pub data Act : Type 0 where
     set : ℕ → Term → Span → Act
     draw : ℕ → List (Rational × Term) → Span → Act
@@ -36,23 +37,25 @@ mutual
     loop : Head → Acts → Act
     call : List ℕ → ℕ → List Term → Span → Act
 
-  -- Acts, one behind another.
+  -- A sequence of acts.
   pub data Acts : Type 0 where
     done : Acts
     next : Act → Acts → Acts
 
-  -- The arms of an if, each with its guard and its acts, in the order in which they are tried.
+  -- The arms of an `if`, each with its guard and its acts, in the order in which the guards are
+  -- tested.
   pub data Arms : Type 0 where
     no_arm : Arms
     arm : Cond → Acts → Arms → Arms
 
--- Two lists of acts, one after the other.
+-- The acts of two lists, one list after the other.
 abbrev pub join : Acts → Acts → Acts
 join Acts.done rest = rest
 join (Acts.next a more) rest = Acts.next a (join more rest)
 
--- A procedure. Its variables are its inputs, its outputs and its locals, in this order, by number from 0; the locals
--- are those that its body declares, in the order of the text, and then the variables of the quantifiers of its post.
+-- A procedure. Its variables are numbered from 0: its inputs, its outputs and its locals, in this
+-- order. The locals are the variables that its body declares, in the order of the text, and then
+-- those of the quantifiers of its post.
 pub record TypedProcedure : Type 0 where
   pub name : List ℕ
   pub co : Bool
@@ -74,20 +77,32 @@ type_list vs = map (λ v. v.ty) vs
 abbrev pub variables : TypedProcedure → List Variable
 variables p = p.inputs ++ (p.outputs ++ p.locals)
 
--- The types of a procedure's variables, by number.
+-- The type of each variable of a procedure.
 abbrev pub types_of : TypedProcedure → Types
 types_of p = types_in (type_list (variables p))
 
--- The acts of the body; none where there is no body.
+-- The acts of the body; none if there is no body.
 abbrev pub acts_in : Option Acts → Acts
 acts_in (Some acts) = acts
 acts_in None = Acts.done
 
--- What stands for a procedure that isn't there.
+-- The procedure that represents a missing one.
 abbrev pub nobody : TypedProcedure
-nobody = record { name = []; co = Bool.true; weak = Bool.false; inputs = []; outputs = []; locals = []; pre = Form.number zeroᵛ; post = Form.number zeroᵛ; body = None; loops = 0; span = record { from = 0; to = 0 } }
+nobody = record {
+  name = [];
+  co = Bool.true;
+  weak = Bool.false;
+  inputs = [];
+  outputs = [];
+  locals = [];
+  pre = Form.number zeroᵛ;
+  post = Form.number zeroᵛ;
+  body = None;
+  loops = 0;
+  span = record { from = 0; to = 0 };
+}
 
--- The procedure with this number, from 0, or `nobody` where the list is shorter.
+-- The procedure with the number `n`, counted from 0; `nobody` if the list is too short.
 abbrev pub procedure_at : List TypedProcedure → ℕ → TypedProcedure
 procedure_at [] n = nobody
 procedure_at (p ∷ ps) zero = p

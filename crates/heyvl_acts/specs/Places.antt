@@ -1,4 +1,5 @@
--- The place of an act: its number in the text of its procedure's body, from 0, an act before those inside it.
+-- The place of an act: its index in the text of its procedure's body, counted from 0. An act
+-- precedes the acts in it.
 use Rattle.std.specs.Prelude.{ℕ, List, [], ◌∷◌, ◌++◌, Option, Some, None}
 use Rattle.std.specs.Borrow.{Bor}
 use Prim.Native.Nat.{zero, suc}
@@ -7,12 +8,12 @@ use Rattle.heyvl_acts.specs.PlainActs.{act_of}
 use Rattle.heyvl_acts.specs.declared.acts.Act as A
 
 abbrev mutual
-  -- The acts of a list and those inside them, in the order of the text.
+  -- The acts of a sequence and the acts in them, in the order of the text.
   pub in_order : Acts → List Act
   in_order Acts.done = []
   in_order (Acts.next a rest) = a ∷ (inside a ++ in_order rest)
 
-  -- The acts inside an act, in the order of the text.
+  -- The acts in an act, in the order of the text.
   pub inside : Act → List Act
   inside (Act.set x t span) = []
   inside (Act.draw x ps span) = []
@@ -26,18 +27,19 @@ abbrev mutual
   inside (Act.loop h b) = in_order b
   inside (Act.call xs p es span) = []
 
-  -- The acts inside the arms, in the order of the text.
+  -- The acts in the arms, in the order of the text.
   pub inside_arms : Arms → List Act
   inside_arms Arms.no_arm = []
   inside_arms (Arms.arm g b more) = in_order b ++ inside_arms more
 
--- The n-th of a list, from 0; none where it is shorter.
+-- The element with the index `n`, if the list is long enough.
 abbrev pub nth : {A : Type 0} → List A → ℕ → Option A
 nth [] n = None
 nth (x ∷ xs) zero = Some x
 nth (x ∷ xs) (suc n) = nth xs n
 
--- The acts of a procedure's body and those inside them, in the order of the text; none where there is no procedure.
+-- The acts of a procedure's body and the acts in them, in the order of the text; none if there is
+-- no procedure.
 abbrev pub acts_of_procedure : Option TypedProcedure → List Act
 acts_of_procedure (Some p) = in_order (acts_in p.body)
 acts_of_procedure None = []
@@ -46,7 +48,7 @@ acts_of_procedure None = []
 abbrev pub act_named : List TypedProcedure → ℕ → ℕ → Option Act
 act_named ps p place = nth (acts_of_procedure (nth ps p)) place
 
--- The plain tree of an act that is lent, where one is.
+-- The plain tree of a borrowed act, if there is one.
 abbrev pub held : Option (Bor A.Act) → Option Act
 held (Some a) = Some (act_of a.now)
 held None = None

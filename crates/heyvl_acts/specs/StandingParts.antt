@@ -1,4 +1,5 @@
--- Where the parts of a typed procedure stand: each place that an answer may name is within the text. This project's own.
+-- The places in a typed procedure: each place that an answer may name is within the text. This
+-- project's own.
 use Rattle.std.specs.Prelude.{◌≤◌, ℕ, Option, Some, None}
 use Rattle.heyvl_num.specs.Rational.{Rational}
 use Rattle.heylo_formula.specs.Formula.{Form, Cond, Term}
@@ -6,7 +7,7 @@ use Rattle.heyvl_acts.specs.Acts.{Act, Arms, TypedProcedure, acts_in}
 use Rattle.heyvl_acts.specs.Places.{in_order}
 use Rattle.heyvl_acts.specs.Rules.{Each}
 
--- Each product in the form begins within so many bytes.
+-- The place of each product in the form begins at an index of at most `n`.
 abbrev mutual
   pub FormStands : ℕ → Form → Type 0
   FormStands n (Form.number v) = Unit {0}
@@ -27,7 +28,7 @@ abbrev mutual
   FormStands n (Form.select g a b) = CondStands n g × (FormStands n a × FormStands n b)
   FormStands n (Form.bind up x name ty a) = FormStands n a
 
-  -- Each product in the condition begins within so many bytes.
+  -- The place of each product in the condition begins at an index of at most `n`.
   pub CondStands : ℕ → Cond → Type 0
   CondStands n (Cond.constant b) = Unit {0}
   CondStands n (Cond.flag x) = Unit {0}
@@ -40,22 +41,23 @@ abbrev mutual
   CondStands n (Cond.equal a b) = FormStands n a × FormStands n b
   CondStands n (Cond.ite g h k) = CondStands n g × (CondStands n h × CondStands n k)
 
--- Each product in the term begins within so many bytes.
+-- The place of each product in the term begins at an index of at most `n`.
 abbrev pub TermStands : ℕ → Term → Type 0
 TermStands n (Term.truth g) = CondStands n g
 TermStands n (Term.number f) = FormStands n f
 
--- Each product in the guards of the arms begins within so many bytes.
+-- The place of each product in the guards of the arms begins at an index of at most `n`.
 abbrev pub GuardsStand : ℕ → Arms → Type 0
 GuardsStand n Arms.no_arm = Unit {0}
 GuardsStand n (Arms.arm g b more) = CondStands n g × GuardsStand n more
 
--- Each product in the ranking, if there is one, begins within so many bytes.
+-- The place of each product in the ranking, if there is one, begins at an index of at most `n`.
 abbrev pub RankStands : ℕ → Option (Rational × Form) → Type 0
 RankStands n None = Unit {0}
 RankStands n (Some r) = FormStands n r.1
 
--- An act begins within so many bytes, and so do the products in its forms; those of acts inside it aside.
+-- The places of an act and of the products in its forms begin at an index of at most `n`; nested
+-- acts do not count.
 abbrev pub ActStands : ℕ → Act → Type 0
 ActStands n (Act.set x t span) = (span.from ≤ n) × TermStands n t
 ActStands n (Act.draw x qs span) = (span.from ≤ n) × Each (λ q. TermStands n q.1) qs
@@ -66,10 +68,12 @@ ActStands n (Act.ifs arms e span) = (span.from ≤ n) × GuardsStand n arms
 ActStands n (Act.pick up a b span) = span.from ≤ n
 ActStands n (Act.check kind f span) = (span.from ≤ n) × FormStands n f
 ActStands n (Act.validate co span) = span.from ≤ n
-ActStands n (Act.loop h b) = (h.span.from ≤ n) × (FormStands n h.inv × (CondStands n h.guard × RankStands n h.rank))
+ActStands n (Act.loop h b) =
+    (h.span.from ≤ n) × (FormStands n h.inv × (CondStands n h.guard × RankStands n h.rank))
 ActStands n (Act.call xs q es span) = (span.from ≤ n) × Each (TermStands n) es
 
--- The procedure's statements and the products in its forms begin within so many bytes.
+-- The places of the procedure's acts and of the products in its forms begin at an index of at most
+-- `n`.
 pub record StandsWithin (n : ℕ) (p : TypedProcedure) : Type 0 where
   pub pre : FormStands n p.pre
   pub post : FormStands n p.post

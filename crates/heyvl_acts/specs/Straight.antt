@@ -1,7 +1,8 @@
--- Acts without loops and calls.
+-- Acts that are neither loops nor calls.
 use Rattle.heyvl_acts.specs.Acts.{Act}
 
--- No loop and no call.
+-- The act is neither a loop nor a call. The acts in its blocks do not count: an `if` with a loop in
+-- it is straight.
 abbrev pub IsStraight : Act → Type 0
 IsStraight (Act.loop h b) = ⊥
 IsStraight (Act.call xs q es span) = ⊥

@@ -1,30 +1,33 @@
-//! Acts: what a procedure does, step by step.
+//! Acts: the statements of typed procedures.
 
 use heylo_formula::{Cond, Form, Term, Ty};
 use heyvl_num::Frac;
 use heyvl_places::{CheckKind, Span};
 
-/// One act. Variables, procedures and loops go by number; each act has its statement's place.
+/// An act. Variables, procedures and loops are numbers. Each act has the place of its statement.
 #[cycle(acts)]
 pub enum Act {
-    /// The variable takes the term's value.
+    /// Assigns the value of the term to the variable.
     Set(u32, Term, Span),
-    /// The variable takes the value of one of the parts, each with its weight. Weights are from 0 on and add up to 1.
+    /// Assigns one of the alternatives to the variable, each with its weight as probability. The
+    /// weights are nonnegative, and their sum is 1.
     Draw(u32, Vec<(Frac, Term)>, Span),
-    /// The variable, a Bool, becomes true with the smaller of the formula's value and 1, and false with the rest. The formula is
-    /// a UInt or UReal without binders, and without a numeric variable outside conditions.
+    /// Assigns true to the variable, a Bool, with the smaller of the form's value and 1 as
+    /// probability, and false with the rest. The form is a UInt or UReal without binders, and
+    /// without numeric variables outside conditions.
     Toss(u32, Form, Span),
-    /// The variable takes any value of its type: whether upward (the greatest outcome counts), and that type.
+    /// Assigns any value of its type to the variable. The flag is true if it is upward, so that the
+    /// largest outcome counts.
     Any(u32, bool, Ty, Span),
-    /// The formula's value is collected.
+    /// Collects the value of the formula.
     Reward(Form, Span),
-    /// The block of the first arm whose guard holds, or else the last block.
+    /// Runs the block of the first arm whose guard holds, or the last block if no guard holds.
     If(Vec<(Cond, Vec<Act>)>, Vec<Act>, Span),
-    /// One of two blocks: whether upward.
+    /// Runs one of two blocks. The flag is true if it is upward, so that the larger outcome counts.
     Pick(bool, Vec<Act>, Vec<Act>, Span),
     /// `assert`, `assume`, `coassert` or `coassume` of a formula.
     Check(CheckKind, Form, Span),
-    /// `covalidate` where the flag is true, else `validate`.
+    /// `covalidate` if the flag is true, otherwise `validate`.
     Validate(bool, Span),
     /// A loop.
     Loop(Box<LoopAct>),
@@ -54,21 +57,22 @@ impl Drop for Act {
 /// A loop.
 #[cycle(acts)]
 pub struct LoopAct {
-    /// From 1, in the order of the text, an outer loop before those in its body.
+    /// The number of the loop, counted from 1 in the order of the text. An outer loop precedes the
+    /// loops in its body.
     pub number: u32,
-    /// How many copies of the body its encoding has, from 1 to 16.
+    /// The number of copies of the body in the encoding, from 1 to 16.
     pub k: u32,
     /// The invariant.
     pub inv: Form,
-    /// The loop goes on while it holds.
+    /// The guard. The loop continues while it holds.
     pub guard: Cond,
-    /// What one turn does.
+    /// The body.
     pub body: Vec<Act>,
-    /// The step, above 0, and the ranking, where there is one.
+    /// The step, which is positive, and the ranking, if there is one.
     pub rank: Option<(Frac, Form)>,
-    /// The variables that are visible at the loop, by number.
+    /// The variables that are visible at the loop.
     pub scope: Vec<u32>,
-    /// From the first of the loop's rules on.
+    /// The place, from the first annotation of the loop on.
     pub span: Span,
 }
 

@@ -9,7 +9,7 @@ use heyvl_num::Frac;
 use std::alloc::{AllocError, Global};
 
 impl Act {
-    /// An equal act.
+    /// Returns a copy of the act.
     #[cycle(copying)]
     pub fn copy(&self, alloc: Global) -> Result<Act, AllocError>
         ensures { IfOk result (λ copied. act_of copied ≡ act_of self.now) }
@@ -43,7 +43,7 @@ impl Act {
         }
     }
 
-    /// Copies of these acts, in their order.
+    /// Returns copies of the acts, in their order.
     #[cycle(copying)]
     pub fn copy_all(alloc: Global, all: &[Act]) -> Result<Vec<Act>, AllocError>
         ensures { IfOk result (λ copied. acts_of copied.items ≡ acts_of all.now) }
@@ -57,7 +57,7 @@ impl Act {
 }
 
 impl LoopAct {
-    /// An equal loop.
+    /// Returns a copy of the loop.
     #[cycle(copying)]
     pub fn copy(&self, alloc: Global) -> Result<LoopAct, AllocError>
         ensures { IfOk result (λ copied. loop_of copied ≡ loop_of self.now) }
@@ -75,7 +75,7 @@ impl LoopAct {
     }
 }
 
-/// Copies of the parts of a draw, in their order.
+/// Returns copies of the alternatives of a draw, in their order.
 fn copy_parts(alloc: Global, all: &[(Frac, Term)]) -> Result<Vec<(Frac, Term)>, AllocError>
     ensures { IfOk result (λ copied. parts_of copied.items ≡ parts_of all.now) }
 {
@@ -86,7 +86,7 @@ fn copy_parts(alloc: Global, all: &[(Frac, Term)]) -> Result<Vec<(Frac, Term)>, 
     Ok(copied)
 }
 
-/// Copies of these terms, in their order.
+/// Returns copies of the terms, in their order.
 fn copy_terms(alloc: Global, all: &[Term]) -> Result<Vec<Term>, AllocError>
     ensures { IfOk result (λ copied. terms_of copied.items ≡ terms_of all.now) }
 {
@@ -97,14 +97,14 @@ fn copy_terms(alloc: Global, all: &[Term]) -> Result<Vec<Term>, AllocError>
     Ok(copied)
 }
 
-/// A copy of a list of numbers.
+/// Returns a copy of a list of numbers.
 fn copy_numbers(alloc: Global, all: &[u32]) -> Result<Vec<u32>, AllocError>
     ensures { IfOk result (λ copied. copied.items ≡ all.now) }
 {
     Vec::from_slice(alloc, all)
 }
 
-/// A copy of a ranking and its step, where there is one.
+/// Returns a copy of a ranking with its step, if there is one.
 fn copy_rank(alloc: Global, rank: &Option<(Frac, Form)>) -> Result<Option<(Frac, Form)>, AllocError>
     ensures { IfOk result (λ copied. rank_of copied ≡ rank_of rank.now) }
 {

@@ -1,5 +1,5 @@
-//! How many statements the encoding of acts has, counted without it. The counts stand still at 1,025, above what a procedure may
-//! have.
+//! The number of statements in the encoding of acts, counted without the encoding. Counts above
+//! 1,024, the limit of a procedure, are 1,025.
 
 ghost use Rattle.heyvl_acts.specs.Count.{count_of, count_of_act, count_of_copies};
 ghost use Rattle.heyvl_acts.specs.PlainActs.{act_of, acts_of, loop_of};
@@ -10,28 +10,28 @@ use crate::targets::modified;
 
 const CEILING: usize = 1025;
 
-/// A count, where it is below the ceiling.
+/// Returns the count, or 1,025 if it is larger.
 fn capped(count: usize) -> usize
     ensures { result ≡ min 1025 count }
 {
     count.min(CEILING)
 }
 
-/// Two counts together.
+/// Returns the sum of two counts.
 fn both(left: usize, right: usize) -> usize
     ensures { (m : _) (n : _) → left ≡ min 1025 m → right ≡ min 1025 n → result ≡ min 1025 (m + n) }
 {
     capped(left.saturating_add(right))
 }
 
-/// The copies of a loop's body, with their Ifs and checks.
+/// Returns the count of `k` copies of a body, with their ifs and checks.
 fn copies(k: u32, body: usize) -> usize
     ensures { (n : _) → body ≡ min 1025 n → result ≡ min 1025 (count_of_copies k n) }
 {
     capped((k as usize).saturating_mul(body.saturating_add(2)))
 }
 
-/// The statements of acts.
+/// Returns the number of statements in the encoding of the acts, or 1,025 if it is larger.
 #[cycle(counting)]
 pub fn count(acts: &[Act]) -> usize
     ensures { result ≡ min 1025 (count_of (acts_of acts.now)) }
@@ -46,7 +46,7 @@ pub fn count(acts: &[Act]) -> usize
     total
 }
 
-/// The statements of one act.
+/// Returns the number of statements in the encoding of one act, or 1,025 if it is larger.
 #[cycle(counting)]
 fn count_of_act(act: &Act) -> usize
     ensures { result ≡ min 1025 (count_of_act (act_of act.now)) }
@@ -78,7 +78,8 @@ fn count_of_act(act: &Act) -> usize
     }
 }
 
-/// The statements of a loop. The variables that it modifies are only counted where its copies aren't too many already.
+/// Returns the number of statements in the encoding of a loop, or 1,025 if it is larger. The
+/// modified variables are counted only if the copies alone do not exceed the limit.
 #[cycle(counting)]
 fn count_of_loop(one: &LoopAct) -> usize
     ensures { result ≡ min 1025 (count_of_act (loop_of one.now)) }

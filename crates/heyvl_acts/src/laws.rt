@@ -2,8 +2,9 @@
 
 ghost use Rattle.heyvl_acts.specs.Matching as matching;
 
-/// What a run asks of the forward meaning, whatever loops and calls mean: a list of acts after another means the one
-/// before what the other means; and after each kind of act, choices for what follows are part of choices for the whole.
+/// States what inductions over runs use of the forward meaning, whatever loops and calls mean: the
+/// meaning of two lists of acts, one after the other, is a composition; and for each kind of act,
+/// given choices for its post, some choices for the whole yield the same value.
 pub fn forward_meaning_matches_runs()
     ensures join { matching.ActsJoin }
     ensures draws { matching.DrawsMatch }

@@ -1,4 +1,6 @@
-//! Acts: what a procedure does once names are numbers, what it means, and what the static rules demand of a typed file.
+//! Acts: the statements of a typed procedure, their meaning, and the static rules of a typed file.
+//!
+//! `AllocError` means that memory ran out.
 #![tactic(auto)]
 
 mod acts;

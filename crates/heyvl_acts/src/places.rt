@@ -1,4 +1,5 @@
-//! The act at a place: its number in the text of its procedure's body, an act before those inside it.
+//! The act at a place: its index in the text of its procedure's body, where an act precedes the
+//! acts in it.
 
 ghost use Rattle.heyvl_acts.specs.internal.PlaceWalks.{Finds};
 ghost use Rattle.heyvl_acts.specs.Places.{act_named, held, in_order, inside};
@@ -8,8 +9,8 @@ ghost use Rattle.std.specs.Prelude.{◌≡◌, ◌∷◌};
 use crate::acts::Act;
 use crate::typed_trees::Typed;
 
-/// The act of the procedure's body at this place, from 0 in the order of the text; none exactly where there is no such
-/// procedure or its body has no act there. It takes no memory.
+/// Returns the act at the index `place` of the body of procedure `p`, or `None` if there is no such
+/// procedure or act. Nothing is allocated.
 pub fn act_at(typed: &Typed, p: u32, place: u32) -> Option<&Act>
     ensures { held result ≡ act_named (procedures_of typed.now) p place }
 {
@@ -20,7 +21,8 @@ pub fn act_at(typed: &Typed, p: u32, place: u32) -> Option<&Act>
     }
 }
 
-/// The act at a place of these acts and those inside them, or how far the place is behind them.
+/// Returns the act at a place among the acts and the acts in them, or the number of acts by which
+/// the place is beyond them.
 #[cycle(finding)]
 fn among(acts: &[Act], place: u32) -> Result<&Act, u32>
     ensures { Finds (in_order (acts_of acts.now)) place result }
@@ -35,7 +37,8 @@ fn among(acts: &[Act], place: u32) -> Result<&Act, u32>
     Err(left)
 }
 
-/// The same for one act and those inside it.
+/// Returns the act at a place among the act and the acts in it, or by how many acts the place is
+/// beyond them.
 #[cycle(finding)]
 fn from_act(act: &Act, place: u32) -> Result<&Act, u32>
     ensures { Finds (act_of act.now ∷ inside (act_of act.now)) place result }
@@ -46,7 +49,8 @@ fn from_act(act: &Act, place: u32) -> Result<&Act, u32>
     within(act, place - 1)
 }
 
-/// The same for the acts inside one.
+/// Returns the act at a place among the acts in an act, or by how many acts the place is beyond
+/// them.
 #[cycle(finding)]
 fn within(act: &Act, place: u32) -> Result<&Act, u32>
     ensures { Finds (inside (act_of act.now)) place result }

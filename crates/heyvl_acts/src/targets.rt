@@ -1,4 +1,4 @@
-//! Which variables acts give a value.
+//! The variables that acts assign.
 
 ghost use Rattle.heyvl_acts.specs.ModifiedVariables.{is_target_of, is_target_of_act, modified};
 ghost use Rattle.heyvl_acts.specs.PlainActs.{act_of, acts_of};
@@ -7,7 +7,7 @@ ghost use Rattle.std.specs.Prelude.{◌≡◌, length};
 
 use crate::acts::Act;
 
-/// Whether acts give the variable a value.
+/// Returns whether one of the acts assigns the variable `x`.
 #[cycle(targets)]
 pub fn is_target(x: u32, acts: &[Act]) -> bool
     ensures { result ≡ is_target_of x (acts_of acts.now) }
@@ -20,7 +20,7 @@ pub fn is_target(x: u32, acts: &[Act]) -> bool
     false
 }
 
-/// Whether an act gives the variable a value.
+/// Returns whether the act assigns the variable `x`.
 #[cycle(targets)]
 fn is_target_of_act(x: u32, act: &Act) -> bool
     ensures { result ≡ is_target_of_act x (act_of act.now) }
@@ -47,14 +47,14 @@ fn is_target_of_act(x: u32, act: &Act) -> bool
     }
 }
 
-/// Whether the variable is among these.
+/// Returns whether `x` is one of the targets.
 fn is_among(x: u32, targets: &[u32]) -> bool
     ensures { result ≡ among targets.now x }
 {
     targets.contains(&x)
 }
 
-/// How many variables of a scope acts give a value.
+/// Returns the number of variables of the scope that the acts assign.
 pub(crate) fn modified(scope: &[u32], acts: &[Act]) -> usize
     ensures { result ≡ length (modified scope.now (acts_of acts.now)) }
 {

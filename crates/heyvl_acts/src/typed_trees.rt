@@ -1,10 +1,10 @@
-//! Typed trees: a file whose names are numbers and whose expressions are formulas.
+//! Typed trees: a file in which names are numbers and expressions are forms.
 
 use crate::acts::Act;
 use heylo_formula::{Form, Ty};
 use heyvl_places::{Name, Span};
 
-/// A file without a fault, with numbers in place of names.
+/// A file without errors, with numbers in place of names.
 pub struct Typed {
     /// The procedures, in the order of the text.
     pub procs: Vec<TProc>,
@@ -19,26 +19,26 @@ impl Drop for Typed {
 /// A procedure.
 pub struct TProc {
     pub name: Name,
-    /// Whether it is a coproc, whose pre is an upper bound.
+    /// True for a coproc, whose pre is an upper bound, and false for a proc.
     pub co: bool,
-    /// Whether it is a proc with `@wlp`.
+    /// True for a proc with `@wlp`.
     pub weak: bool,
-    /// The inputs, then the outputs, then the locals in the order of their declarations, then the variables of the
-    /// quantifiers of the post clauses in the order of the text.
+    /// The inputs, then the outputs, then the locals in the order of their declarations, then the
+    /// variables of the quantifiers of the post clauses in the order of the text.
     pub vars: Vec<VarInfo>,
-    /// How many of the first variables are inputs.
+    /// The number of inputs, which are the first variables.
     pub inputs: u32,
-    /// How many of the next variables are outputs.
+    /// The number of outputs, which are the next variables.
     pub outputs: u32,
     /// A formula over the inputs.
     pub pre: Form,
     /// A formula over the inputs and outputs.
     pub post: Form,
-    /// What it does, where it has a body.
+    /// The acts of the body, if there is one.
     pub body: Option<Vec<Act>>,
-    /// How many loops the body has.
+    /// The number of loops of the body.
     pub loops: u32,
-    /// From its note, or else its first word, on.
+    /// The place, from the note on, or from the first keyword if there is no note.
     pub span: Span,
 }
 
@@ -60,7 +60,7 @@ impl Drop for TProc {
     }
 }
 
-/// A variable.
+/// A variable: its name and its type.
 pub struct VarInfo {
     pub name: Name,
     pub ty: Ty,

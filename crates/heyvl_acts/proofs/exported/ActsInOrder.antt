@@ -1,4 +1,5 @@
--- The acts that the program holds, in the order of the text: those that are left behind some, and those inside one.
+-- For the proofs of other crates: the acts of the code, in the order of the text, the remaining
+-- ones of a walk, and those in an act.
 use Rattle.std.proofs.Common.{◌≡◌, ℕ, Bool, ◌<◌, ◌+◌, ap, sym, ◌∙◌, List, ◌∷◌, ◌++◌, append_assoc, length, drop, get_or}
 use Rattle.std.proofs.lemmas.List.{at_drop_more}
 use Rattle.std.specs.Prelude.{Vec}
@@ -11,7 +12,7 @@ use Rattle.heyvl_acts.specs.Places.{in_order, inside, inside_arms}
 use Rattle.heyvl_acts.specs.PlainActs.{act_of, acts_of, arms_of}
 use Rattle.heyvl_acts.specs.declared.acts.Act as A
 
--- The rest of a walk over acts, and over arms.
+-- The acts that remain of a walk over acts, and over arms.
 abbrev pub acts_from : List A.Act → ℕ → List Act
 acts_from acts k = in_order (acts_of (drop k acts))
 
@@ -24,7 +25,8 @@ next_act acts k x lt is = at_drop_more (λ l. in_order (acts_of l)) acts k x lt 
 pub next_arm : (arms : List (C.Cond × Vec A.Act Global)) (k : ℕ) (e : List Act) (x : C.Cond × Vec A.Act Global) → k < length arms → x ≡ get_or arms k x → arms_from arms k e ≡ in_order (acts_of x.1.items) ++ arms_from arms (k + 1) e
 next_arm arms k e x lt is = at_drop_more (λ l. inside_arms (arms_of l) ++ e) arms k x lt ∙ (ap (λ y. (in_order (acts_of y.1.items) ++ inside_arms (arms_of (drop (k + 1) arms))) ++ e) (sym is) ∙ append_assoc (in_order (acts_of x.1.items)) (inside_arms (arms_of (drop (k + 1) arms))) e)
 
--- An act and those inside it, as parts, and so whatever is made of acts and leaves an act of this kind itself out.
+-- The acts in an act, and the act itself, under a function of lists for which the act itself does
+-- not count.
 pub of_if : {B : Type 0} (f : List Act → B) (a : A.Act) (arms : Vec (C.Cond × Vec A.Act Global) Global) (e : Vec A.Act Global) (span : Span) → f (arms_from arms.items 0 (in_order (acts_of e.items))) ≡ f (Act.ifs (arms_of arms.items) (acts_of e.items) span ∷ arms_from arms.items 0 (in_order (acts_of e.items))) → a ≡ A.If arms e span → f (arms_from arms.items 0 (in_order (acts_of e.items))) ≡ f (act_of a ∷ inside (act_of a))
 of_if f a arms e span left_out is = left_out ∙ sym (ap (λ x. f (act_of x ∷ inside (act_of x))) is ∙ ap (λ x. f (x ∷ inside x)) (if_act arms e span))
 

@@ -1,4 +1,5 @@
--- Acts in which each If has an arm: there are no more of them than statements of their encoding.
+-- For the proofs of other crates: acts in which each `if` has an arm. There are at most as many of
+-- them as statements of their encoding.
 use Prim.Native.Nat.{zero, suc}
 use Rattle.heyvl_acts.proofs.exported.Each.{each_first, each_second}
 use Rattle.heyvl_acts.specs.Acts.{Act, Acts, Arms, TypedProcedure, acts_in, join, procedure_at}
@@ -11,7 +12,7 @@ abbrev pub HasSomeArm : Arms → Type 0
 HasSomeArm Arms.no_arm = ⊥
 HasSomeArm (Arms.arm g b more) = Unit {0}
 
--- Each If of an act, of acts and of arms has an arm.
+-- Each `if` in an act, in acts and in arms has an arm.
 abbrev mutual
   pub IsArmedAct : Act → Type 0
   IsArmedAct (Act.ifs arms e span) = HasSomeArm arms × (AreArmedIn arms × AreArmed e)
@@ -38,7 +39,7 @@ pub armed_join : (a b : Acts) → AreArmed a → AreArmed b → AreArmed (join a
 armed_join Acts.done b h k = k
 armed_join (Acts.next a rest) b h k = (h.0, armed_join rest b h.1 k)
 
--- The copies of a body are together as large as the body and the two statements beside it.
+-- The copies of a body have together at least as many statements as the body and two more.
 copies_large : (k n : ℕ) → 1 ≤ k → n + 2 ≤ k * (n + 2)
 copies_large zero n l = omega (arith, l)
 copies_large (suc k) n l = omega arith
@@ -84,7 +85,7 @@ module _ (p : TypedProcedure) where
         let further = arms_count more h.1 (each_second (LoopsMeet p) (in_order b) (inside_arms more) ks) in
         omega (arith, first, further, length-append (in_order b) (inside_arms more))
 
--- A body has fewer acts than a place can count.
+-- A body has fewer than 2^31 acts.
 pub IsFew : TypedProcedure → Type 0
 IsFew p = length (in_order (acts_in p.body)) < 2 ^ 31
 

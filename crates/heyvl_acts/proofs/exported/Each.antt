@@ -1,4 +1,5 @@
--- What holds of each element of a list holds of its parts; of acts one after the other, and of the block that is taken.
+-- For the proofs of other crates: predicates on all elements of a list, of acts one after the
+-- other, and of the block that an `if` takes.
 use Rattle.std.proofs.Common.{◌<◌, ℕ, arith, Bool, true, false, cond, List, [], ◌∷◌, ◌++◌, length}
 use Prim.Native.Nat.{zero, suc}
 use Rattle.heylo_formula.specs.State.{Env}
@@ -25,7 +26,7 @@ pub each_two : {A : Type 0} (P Q : A → Type 0) (xs : List A) → Each P xs →
 each_two P Q [] h k = tt
 each_two P Q (x ∷ xs) h k = ((h.0, k.0), each_two P Q xs h.1 k.1)
 
--- a procedure of the file, by its number
+-- A procedure of the file, by its number.
 pub each_at : (P : TypedProcedure → Type 0) (ps : List TypedProcedure) (p : ℕ) → Each P ps → p < length ps → P (procedure_at ps p)
 each_at P [] p h lt = absurd (omega (arith, lt))
 each_at P (q ∷ ps) zero h lt = h.0

@@ -1,4 +1,5 @@
--- Lengths of acts one after the other, of the block that an if takes and of the side of a pick.
+-- For the proofs of other crates: lengths of acts one after the other, of the block that an `if`
+-- takes, and of the blocks of a pick.
 use Rattle.std.proofs.Common.{◌≡◌, ◌≤◌, ◌<◌, ◌+◌, ℕ, arith, Bool, true, false, cond, leb, ◌⊎◌, inl, inr}
 use Rattle.std.proofs.lemmas.Bool.Decides.{leb_tells}
 use Rattle.heylo_formula.specs.State.{Env}

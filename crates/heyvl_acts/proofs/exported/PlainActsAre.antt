@@ -1,4 +1,5 @@
--- The plain tree of each kind of act is the plain act over the plain trees of its parts. For export.
+-- For the proofs of other crates: the plain tree of each kind of act is the plain act of the plain
+-- trees of its parts.
 use Rattle.std.proofs.Common.{◌≡◌, ℕ, Bool, sym, ap, ◌∙◌, refl, List, [], ◌∷◌, map}
 use Rattle.std.specs.Prelude.{Vec}
 use Rattle.std.specs.declared.alloc.Global.{Global}
@@ -51,7 +52,7 @@ arms_are (x ∷ l) = ap (λ r. Arms.arm (cond_of x.0) (acts_of x.1.items) r) (ar
 pub if_act : (arms : Vec (C.Cond × Vec A.Act Global) Global) (e : Vec A.Act Global) (span : Span) → act_of (A.If arms e span) ≡ Act.ifs (arms_of arms.items) (acts_of e.items) span
 if_act arms e span = ap act_of (sym (A.TheVariants.rolls-If arms e span)) ∙ fold-roll-Act _ _ _ _ _ ∙ ap (λ x. Act.ifs x (acts_of e.items) span) (arms_are arms.items)
 
--- A loop's head without its body.
+-- The head of a loop, which is the loop without its body.
 abbrev pub head_of : L.LoopAct → Head
 head_of l = record { number = l.number; k = l.k; inv = form_of l.inv; guard = cond_of l.guard; rank = rank_of l.rank; scope = l.scope.items; span = l.span }
 

@@ -1,4 +1,5 @@
--- The parts of a toss in a typed state: their weights are from 0 on and add up to 1.
+-- For the proofs of other crates: the weights of a toss in a typed state are nonnegative and have
+-- the sum 1.
 use Rattle.std.proofs.Common.{◌≡◌, ℕ, refl, ap, ◌∙◌, true, false, []}
 use Rattle.heyvl_num.specs.Rational.{Rational, zeroʳ, oneʳ, ◌+ʳ◌, ◌-ʳ◌, ◌≤ʳ◌}
 use Rattle.heyvl_num.specs.Value.{Value, zeroᵛ, oneᵛ, ◌≤ᵛ◌}
@@ -43,7 +44,7 @@ toss_fit types x f s b h e = ((weight_held types f s h.0 e, (b, refl)), (((diffe
 pub flips_weigh : (w : Rational) → total_weight (flip_parts w) ≡ oneʳ
 flips_weigh w = total_weight-cons w (Term.truth (Cond.constant true)) _ ∙ (ap (λ u. w +ʳ u) (total_weight-cons (oneʳ -ʳ w) (Term.truth (Cond.constant false)) [] ∙ (ap (λ u. (oneʳ -ʳ w) +ʳ u) (total_weight-empty Term) ∙ +ʳ-zero (oneʳ -ʳ w))) ∙ (+ʳ_comm w (oneʳ -ʳ w) ∙ -ʳ-+ʳ oneʳ w))
 
--- Choices for a draw, as those of a toss.
+-- The choices of a draw, as choices of a toss.
 abbrev pub before_products : Choices → Choices
 before_products c = Choices.choose (Truth false) (Choices.choose (Truth false) Choices.stop (left c)) (Choices.choose (Truth false) Choices.stop (right c))
 

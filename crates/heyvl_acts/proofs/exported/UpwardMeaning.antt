@@ -1,4 +1,5 @@
--- The forward meaning of acts one after the other and of the block that is taken, also of acts that are taken upward.
+-- For the proofs of other crates: the forward meaning of acts one after the other and of the block
+-- that an `if` takes, also of upward acts.
 use Rattle.std.proofs.Common.{◌≡◌, ◌∙◌, refl, ap, subst, Bool, true, false, cond}
 use Rattle.heylo_formula.specs.State.{Env}
 use Rattle.heylo_formula.specs.Choices.{Choices, right}
@@ -35,7 +36,7 @@ forward_join (Acts.next a rest) b k = ap (λ (j : Post). forward_act a j) (forwa
 pub joined_meaning : (a b : Acts) (k : Post) → forward (upward (join a b)) k ≡ forward (upward a) (forward (upward b) k)
 joined_meaning a b k = ap (λ (x : Acts). forward x k) (upward_join a b) ∙ forward_join (upward a) (upward b) k
 
--- ---- The block that is taken
+-- ---- The block that an `if` takes
 
 abbrev pub behind : Choices → Choices
 behind d = Choices.choose (Truth false) Choices.stop d

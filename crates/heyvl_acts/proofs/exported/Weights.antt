@@ -1,4 +1,5 @@
--- How far a walk over acts can go: an act weighs more than the lists inside it. For export.
+-- For the proofs of other crates: a measure of walks over acts. An act weighs more than the lists
+-- in it.
 use Rattle.std.proofs.Common.{◌≡◌, ◌≤◌, ◌<◌, ◌+◌, ℕ, sym, subst, arith, List, [], ◌∷◌, length, get_or}
 use Rattle.std.specs.Prelude.{Vec}
 use Rattle.std.specs.declared.alloc.Global.{Global}

@@ -4,7 +4,7 @@ use Rattle.heyvl_acts.specs.PlainActs.{act_of, acts_of}
 use Rattle.heyvl_acts.specs.Places.{in_order, inside}
 use Rattle.heyvl_acts.specs.internal.PlaceWalks.{Behind}
 
--- The place is in the rest, by the number that is left.
+-- The place is among the remaining acts, with the remaining index.
 abbrev pub invariant-among-loop-act : goal.invariant-among-loop-act
 invariant-among-loop-act l = Behind (in_order (acts_of l.acts)) l.fn.place (acts_from l.acts l.act-index) l.left
 

@@ -4,7 +4,7 @@ use Rattle.heyvl_acts.specs.ModifiedVariables.{is_target_of, is_target_of_act}
 use Rattle.heyvl_acts.specs.PlainActs.{act_of, acts_of}
 use Rattle.std.proofs.Common.{drop, ◌≡◌}
 
--- What was visited gives the variable no value.
+-- No visited act assigns the variable.
 abbrev pub invariant-is_target-loop-act : goal.invariant-is_target-loop-act
 invariant-is_target-loop-act l = is_target_of l.x (acts_of (drop l.act-index l.acts)) ≡ is_target_of l.x (acts_of l.acts)
 
