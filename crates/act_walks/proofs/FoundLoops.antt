@@ -1,4 +1,4 @@
--- The loop that a number names, in lists of acts in a row.
+-- The loop with a given number, in appended lists of acts.
 use Rattle.std.proofs.Common.{◌≡◌, ℕ, Bool, true, false, cond, ◌<◌, ◌+◌, ◌==◌, refl, ap, sym, ◌∙◌, List, [], ◌∷◌, ◌++◌, length, get_or}
 use Rattle.std.specs.Option.{option_or}
 use Rattle.std.specs.Prelude.{Option, Some, None, Vec}
@@ -32,11 +32,11 @@ both n (Act.validate d span ∷ rest) ys = both n rest ys
 both n (Act.loop h b ∷ rest) ys = ap (λ (x : Found). cond (h.number == n) (Some (h, b)) x) (both n rest ys) ∙ either (h.number == n) (h, b) (loop_in n rest) (loop_in n ys)
 both n (Act.call xs p es span ∷ rest) ys = both n rest ys
 
--- What is found in the first part is found in both.
+-- A loop that is found in the first list is found in both.
 pub found_first : (n : ℕ) (xs ys : List Act) (l : Head × Acts) → Some l ≡ loop_in n xs → Some l ≡ loop_in n (xs ++ ys)
 found_first n xs ys l h = sym (both n xs ys ∙ ap (λ o. option_or o (loop_in n ys)) (sym h))
 
--- Where there is none in the first part, the second counts.
+-- If there is none in the first list, the second one decides.
 pub past_first : (n : ℕ) (xs ys : List Act) → None ≡ loop_in n xs → loop_in n (xs ++ ys) ≡ loop_in n ys
 past_first n xs ys h = both n xs ys ∙ ap (λ o. option_or o (loop_in n ys)) (sym h)
 

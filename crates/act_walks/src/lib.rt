@@ -1,4 +1,7 @@
-//! Walks over acts in the order of the text: all of them, and the loop that a number names.
+//! Walks over acts in the order of the text: the list of all acts, and the loop with a given
+//! number.
+//!
+//! `AllocError` means that memory ran out.
 #![tactic(auto)]
 
 mod loops;

@@ -1,4 +1,4 @@
-//! The loop that a number names.
+//! The loop with a given number.
 
 ghost use Rattle.act_walks.specs.Lent.{lent_loop};
 ghost use Rattle.act_walks.specs.Loops.{loop_in};
@@ -9,9 +9,11 @@ ghost use Rattle.std.specs.Prelude.{◌≡◌, ◌∷◌};
 
 use heyvl_acts::{Act, LoopAct, TProc};
 
-/// The loop with this number of the procedure's body, if there is one. It takes no memory.
+/// Returns the loop with the number `number` in the procedure's body, or `None` if there is none.
+/// Nothing is allocated.
 pub fn loop_of(procedure: &TProc, number: u32) -> Option<&LoopAct>
-    ensures { lent_loop result ≡ loop_in number (in_order (acts_in (procedure_of procedure.now).body)) }
+    ensures { lent_loop result
+        ≡ loop_in number (in_order (acts_in (procedure_of procedure.now).body)) }
 {
     match &procedure.body {
         Some(acts) => loop_among(acts, number),
@@ -19,7 +21,7 @@ pub fn loop_of(procedure: &TProc, number: u32) -> Option<&LoopAct>
     }
 }
 
-/// The first loop with this number among the acts and those inside them.
+/// Returns the first loop with the number `number` among the acts and the acts in them.
 #[cycle(finding)]
 fn loop_among(acts: &[Act], number: u32) -> Option<&LoopAct>
     ensures { lent_loop result ≡ loop_in number (in_order (acts_of acts.now)) }
@@ -32,7 +34,7 @@ fn loop_among(acts: &[Act], number: u32) -> Option<&LoopAct>
     None
 }
 
-/// The same for one act and those inside it.
+/// Returns the first loop with the number `number` among the act and the acts in it.
 #[cycle(finding)]
 fn loop_from(act: &Act, number: u32) -> Option<&LoopAct>
     ensures { lent_loop result ≡ loop_in number (act_of act.now ∷ inside (act_of act.now)) }

@@ -9,10 +9,11 @@ ghost use Rattle.std.specs.Prelude.{IfOk, OnOk, map, ◌++◌, ◌≡◌};
 use heyvl_acts::{Act, TProc};
 use std::alloc::{AllocError, Global};
 
-/// The acts of the procedure's body in the order of the text, an act before those inside it; none where it has no body. Want of
-/// memory is the one error.
+/// Returns the acts of the procedure's body in the order of the text, where an act precedes the
+/// acts in it. The list is empty if there is no body.
 pub fn in_order<'a>(alloc: Global, procedure: &'a TProc) -> Result<Vec<&'a Act>, AllocError>
-    ensures { IfOk result (λ all. map lent all.items ≡ in_order (acts_in (procedure_of procedure.now).body)) }
+    ensures { IfOk result (λ all. map lent all.items
+        ≡ in_order (acts_in (procedure_of procedure.now).body)) }
 {
     let mut all = Vec::new(alloc);
     if let Some(acts) = &procedure.body {
@@ -21,10 +22,11 @@ pub fn in_order<'a>(alloc: Global, procedure: &'a TProc) -> Result<Vec<&'a Act>,
     Ok(all)
 }
 
-/// These acts and those inside them are appended.
+/// Appends the acts and the acts in them.
 #[cycle(ordering)]
 fn add_all<'a>(all: &mut Vec<&'a Act>, acts: &'a [Act]) -> Result<(), AllocError>
-    ensures { OnOk result (map lent all.new.items ≡ map lent all.old.items ++ in_order (acts_of acts.now)) }
+    ensures { OnOk result (map lent all.new.items ≡ map lent all.old.items
+        ++ in_order (acts_of acts.now)) }
 {
     for act in acts {
         all.push(act)?;
@@ -33,10 +35,11 @@ fn add_all<'a>(all: &mut Vec<&'a Act>, acts: &'a [Act]) -> Result<(), AllocError
     Ok(())
 }
 
-/// The acts inside one are appended.
+/// Appends the acts in an act.
 #[cycle(ordering)]
 fn add_inside<'a>(all: &mut Vec<&'a Act>, act: &'a Act) -> Result<(), AllocError>
-    ensures { OnOk result (map lent all.new.items ≡ map lent all.old.items ++ inside (act_of act.now)) }
+    ensures { OnOk result (map lent all.new.items ≡ map lent all.old.items
+        ++ inside (act_of act.now)) }
 {
     match act {
         Act::If(arms, other, _) => {

@@ -5,7 +5,7 @@ use Rattle.act_walks.specs.Loops.{loop_in}
 use Rattle.heyvl_acts.proofs.exported.ActsInOrder.{acts_from, arms_from}
 use Rattle.act_walks.proofs.loops.+finding.Given as goal
 
--- The first of the rest is the first of all.
+-- The first loop among the remaining acts is the first loop of all.
 abbrev pub invariant-loop_among-loop-act : goal.invariant-loop_among-loop-act
 invariant-loop_among-loop-act l = loop_in l.number (acts_from l.acts l.act-index) ≡ loop_in l.number (in_order (acts_of l.acts))
 

@@ -5,7 +5,7 @@ use Rattle.act_walks.specs.Lent.{lent}
 use Rattle.heyvl_acts.proofs.exported.ActsInOrder.{acts_from, arms_from}
 use Rattle.act_walks.proofs.order.+ordering.Given as goal
 
--- What is appended and what the rest holds are what all hold.
+-- The appended acts and those of the remaining ones are all acts.
 abbrev pub invariant-add_all-loop-act : goal.invariant-add_all-loop-act
 invariant-add_all-loop-act l = map lent l.all.items ++ acts_from l.acts l.act-index ≡ map lent l.initial.all.items ++ in_order (acts_of l.acts)
 
