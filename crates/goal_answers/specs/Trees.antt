@@ -4,26 +4,28 @@ use Rattle.goal_answers.specs.declared.trees.Tree as T
 use Rattle.goal_answers.specs.declared.trees.Tree.TheOpen.{Tree-F}
 use Rattle.goal_answers.specs.declared.trees.Tree.TheFolds.{fold-Tree}
 
--- A question answered both ways; multipliers by row index; nothing, where the goal holds plainly; a whole variable that is at
--- most a number, or at least the next one.
+-- A certificate. `split`: a comparison, with the trees for both answers. `farkas`: a leaf with
+-- multipliers of rows, each with the index of its row. `plain`: a leaf at which the goal holds
+-- without rows. `whole x m`: the integer variable `x`, with the trees for at most `m` and for at
+-- least `m` + 1.
 pub data Tree : Type 0 where
   split : Tree → Tree → Tree
   farkas : List (ℕ × ℕ) → Tree
   plain : Tree
   whole : ℕ → ℤ → Tree → Tree → Tree
 
--- One node of a tree that the program holds, as a plain tree, where the trees below it are plain already.
+-- The plain tree of a node whose subtrees are plain trees already.
 abbrev pub tree_layer : Tree-F Tree → Tree
 tree_layer (Tree-F.Split t u) = Tree.split t.value u.value
 tree_layer (Tree-F.Farkas ms) = Tree.farkas ms.items
 tree_layer Tree-F.Plain = Tree.plain
 tree_layer (Tree-F.Whole x m t u) = Tree.whole x m t.value u.value
 
--- The tree that the program holds, read as a plain tree.
+-- The plain tree of a certificate of the code.
 abbrev pub tree_of : T.Tree → Tree
 tree_of = fold-Tree Tree tree_layer
 
--- How deep a tree is. A leaf has depth 1.
+-- The number of nodes on a longest path from the root to a leaf. A leaf has depth 1.
 abbrev pub depth : Tree → ℕ
 depth (Tree.split t u) = 1 + max (depth t) (depth u)
 depth (Tree.farkas ms) = 1

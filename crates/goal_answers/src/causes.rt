@@ -1,11 +1,12 @@
-//! Why nothing is known of a goal.
+//! Causes of undecided goals.
 
 use heylo_formula::Val;
 use heyvl_num::Frac;
 use heyvl_places::Span;
 
-/// A whole variable whose interval holds no whole number, with the values chosen before, in the order of choice, and the two
-/// ends of the interval, each of which may belong to it.
+/// An interval without integers for an integer variable: the variable, the values that were chosen
+/// before, in the order of choice, and the two ends of the interval, each with whether it belongs
+/// to the interval.
 #[derive(Drop)]
 pub struct Broken {
     pub var: u32,
@@ -16,21 +17,21 @@ pub struct Broken {
     pub high_in: bool,
 }
 
-/// Why nothing is known of a goal.
+/// The cause of an undecided goal.
 #[derive(Drop)]
 pub enum Cause {
-    /// The goal's form would be deeper than 1,000.
+    /// The form of the goal would be deeper than 1,000.
     Depth,
-    /// The goal's form would have more than 200,000 nodes.
+    /// The form of the goal would have more than 200,000 nodes.
     Nodes,
-    /// Both factors of the product at this place hold a numeric variable outside conditions.
+    /// Both factors of the product at this place contain a numeric variable outside conditions.
     Nonlinear(Span),
-    /// There are more than 4,096 cells: the count at which the walk stopped, 4,097.
+    /// There are more than 4,096 cells. The number is the count at which the walk stopped, 4,097.
     Cells(u32),
-    /// There are more than 4,096 rows: how many variables were eliminated, and how many rows there are.
+    /// There are more than 4,096 rows: the number of eliminated variables, and the number of rows.
     Rows(u32, u32),
-    /// A number reaches its bound.
+    /// A number overflows.
     Bits,
-    /// The greedy choice finds no whole number for a variable.
+    /// The greedy choice finds no integer for a variable.
     Fraction(Broken),
 }

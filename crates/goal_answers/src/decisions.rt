@@ -1,4 +1,4 @@
-//! What is found of a goal.
+//! Decisions of goals.
 
 use crate::causes::Cause;
 use crate::trees::Tree;
@@ -7,10 +7,10 @@ use heylo_formula::Val;
 /// The decision of a goal.
 #[derive(Drop)]
 pub enum Decision {
-    /// The goal holds in every state: its certificate, unless the walk's tree is deeper than 1,000.
+    /// The goal holds in every state. Its certificate is left out if it would be deeper than 1,000.
     Proved(Option<Tree>),
     /// The goal fails in this state.
     Falsified(Vec<Val>),
-    /// Nothing is known of the goal, for this cause.
+    /// The goal is undecided, with the cause.
     Unknown(Cause),
 }

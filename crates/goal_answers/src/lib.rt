@@ -1,4 +1,4 @@
-//! Answers of goals as plain types: decisions and their causes, certificates.
+//! Answers on goals as plain types: decisions, their causes, and certificates.
 #![tactic(auto)]
 
 mod causes;

@@ -1,10 +1,11 @@
-//! Why certificates prove nothing.
+//! Reasons why a certificate proves nothing.
 
-/// Why a certificate proves nothing.
+/// The reason why a goal is not proved by certificates.
 #[derive(Drop)]
 pub enum Miss {
-    /// There is none.
+    /// There is no certificate of the goal.
     Absent,
-    /// It is refused at this node of its tree: for each question on the way there, whether it holds.
+    /// The certificate is refused at a node of its tree. The list has, for each node above it,
+    /// whether its comparison holds on the way.
     Place(Vec<bool>),
 }

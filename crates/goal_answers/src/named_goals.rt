@@ -1,8 +1,9 @@
-//! Goals of a file.
+//! The goals of a file.
 
 use heylo_formula::{GoalId, Made};
 
-/// A goal of a file: the number of its procedure, which of the procedure's goals it is, and what came of making it.
+/// A goal of a file: the number of its procedure, its name in the procedure, and the result of
+/// making it.
 #[derive(Drop)]
 pub struct NamedGoal {
     pub proc: u32,

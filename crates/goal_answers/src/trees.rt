@@ -1,17 +1,20 @@
-//! Certificates: trees of answered questions.
+//! Certificates: trees of answered comparisons.
 
 use heylo_formula::GoalId;
 
-/// A certificate of a goal: each question of a path answered both ways, and past the last one a whole variable split at a number,
-/// until no state goes on or the goal holds plainly.
+/// A certificate of a goal: each comparison of a path with both answers, and, after the last
+/// comparison, integer variables that are split at a number, until no state is left or the goal
+/// holds plainly.
 pub enum Tree {
-    /// The tree where the question's atom holds, and the tree where it fails.
+    /// The trees for the states in which the comparison holds, and for those in which it fails.
     Split(Box<Tree>, Box<Tree>),
-    /// Multipliers by row index, which combine the rows of the path to a contradiction.
+    /// Multipliers, each with the index of its row, that combine the rows of the path to a
+    /// contradiction.
     Farkas(Vec<(u32, u64)>),
-    /// The goal holds here plainly.
+    /// The goal holds here without rows, since infinity is on the larger side.
     Plain,
-    /// A whole variable is at most this number, or at least the next one: the tree for either.
+    /// The trees for the states in which the integer variable is at most the number, and for those
+    /// in which it is at least the next one.
     Whole(u32, i64, Box<Tree>, Box<Tree>),
 }
 
@@ -26,7 +29,8 @@ impl Drop for Tree {
     }
 }
 
-/// The certificate of a goal of a file: the procedure's number, which of its goals, and the tree.
+/// The certificate of a goal of a file: the number of the procedure, the name of the goal in the
+/// procedure, and the tree.
 pub struct GoalCert {
     pub proc: u32,
     pub id: GoalId,
@@ -43,8 +47,8 @@ impl Drop for GoalCert {
     }
 }
 
-/// What the check of a tree gives: it is accepted, or the answers on the way to the first node, in the order of the text, at
-/// which it is refused.
+/// The result of checking a tree: it is accepted, or it is refused, with the answers on the way to
+/// the first refused node in the order of the text.
 #[derive(Drop)]
 pub enum Checked {
     Yes,
