@@ -1,4 +1,6 @@
-//! The texts of numbers, of variables' values and of places, as all that is written shows them.
+//! The texts of numbers, of values and of places, which all outputs use.
+//!
+//! `AllocError` means that memory ran out.
 #![tactic(auto)]
 
 mod writer;

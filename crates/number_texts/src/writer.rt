@@ -1,4 +1,4 @@
-//! Numbers, values and places behind a text.
+//! Writing numbers, values and places.
 
 ghost use Rattle.std.specs.Prelude.{◌≡◌, ◌++◌, ◌<◌, ◌^◌, ◌≤◌, OnOk, length};
 ghost use Rattle.number_texts.specs.ValueTexts.{fraction_text, place_text, value_text};
@@ -9,7 +9,7 @@ use heyvl_places::place_at;
 use itoa::{Buffer, Integer};
 use std::alloc::AllocError;
 
-/// Puts the number's decimal digits behind the text. As with all of these, want of memory is the one error.
+/// Appends the decimal digits of the number to the text.
 pub fn write_number<I: Integer>(text: &mut Vec<u8>, number: I) -> Result<(), AllocError>
     ensures { OnOk result (text.new.items ≡ text.old.items ++ I.text number) }
 {
@@ -17,7 +17,7 @@ pub fn write_number<I: Integer>(text: &mut Vec<u8>, number: I) -> Result<(), All
     Ok(text.extend_from_slice(buffer.format(number).as_bytes())?)
 }
 
-/// Puts a fraction behind the text: `p`, or `p/q` in lowest terms.
+/// Appends the fraction to the text: `p`, or `p/q` in lowest terms.
 pub fn write_fraction(text: &mut Vec<u8>, fraction: Frac) -> Result<(), AllocError>
     ensures { OnOk result (text.new.items ≡ text.old.items ++ fraction_text fraction) }
 {
@@ -30,7 +30,7 @@ pub fn write_fraction(text: &mut Vec<u8>, fraction: Frac) -> Result<(), AllocErr
     }
 }
 
-/// Puts a variable's value behind the text: `true`, `false`, or a fraction.
+/// Appends the value of a variable to the text: `true`, `false`, or a fraction.
 pub fn write_value(text: &mut Vec<u8>, value: Val) -> Result<(), AllocError>
     ensures { OnOk result (text.new.items ≡ text.old.items ++ value_text value) }
 {
@@ -41,7 +41,8 @@ pub fn write_value(text: &mut Vec<u8>, value: Val) -> Result<(), AllocError>
     }
 }
 
-/// Puts the line and column of a byte, or of the end of the bytes, behind the text: `LINE:COLUMN`, both from 1.
+/// Appends the line and column of the byte at `at`, or of the end of the bytes, to the text:
+/// `LINE:COLUMN`, both counted from 1.
 pub fn write_place(text: &mut Vec<u8>, bytes: &[u8], at: u32) -> Result<(), AllocError>
     requires inside { at ≤ length bytes.now }
     requires short { length bytes.now < 2 ^ 31 }
