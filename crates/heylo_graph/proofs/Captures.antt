@@ -1,4 +1,4 @@
--- Binders that capture: their bodies are small, and smaller.
+-- Binders that capture: their bodies are small, and smaller than the binder.
 use Rattle.std.proofs.Common.{◌≡◌, ℕ, ◌+◌, ◌*◌, ◌<◌, ◌^◌, true, List, Some, slice_get, length, sym, ap, subst, ◌∙◌, arith}
 use Rattle.std.proofs.lemmas.Option.{slice_get_within}
 use Rattle.heylo_formula.specs.Formula.{Form, Term}

@@ -1,4 +1,4 @@
--- What a change of the parts does to a node.
+-- The effect of a change of the children on a node.
 use Rattle.std.proofs.Common.{◌≡◌, ℕ, Bool, false, List, Option, Some, None, refl, ap, ◌∙◌}
 use Rattle.heylo_formula.specs.Formula.{Form, Cond}
 use Rattle.heylo_graph.specs.Trees.{Tree}
@@ -7,7 +7,7 @@ use Rattle.heylo_graph.specs.Nodes.{as_form, as_cond, with, tree_at}
 use Rattle.heylo_graph.specs.internal.Tables.{Moves}
 use Rattle.heylo_graph.proofs.Trees.{form_found, cond_found}
 
--- What changes both formulas and conditions.
+-- A change of trees, from a change of forms and one of conditions.
 abbrev pub changed : (Form → Form) → (Cond → Cond) → Tree → Tree
 changed f g (Tree.formula k) = Tree.formula (f k)
 changed f g (Tree.condition k) = Tree.condition (g k)
@@ -26,7 +26,7 @@ cond_moved f g ns a p k l t v s next h = go (as_cond (tree_at ns a)) refl h
     go (Some d) e h = ap (λ r. with (as_cond r) l) (s.moves (Tree.condition d) (cond_found (tree_at ns a) d e)) ∙ next d h
     go None e h = absurd (cc)
 
--- Behind a change, where there is a tree.
+-- The change applied to a tree that is present.
 abbrev pub lifted : (Tree → Tree) → Option Tree → Option Tree
 lifted change (Some t) = Some (change t)
 lifted change None = None

@@ -1,11 +1,11 @@
--- The definitions, computed on small lists.
+-- The definitions, computed for small lists.
 use Rattle.std.proofs.Common.{◌≡◌, List, [], ◌∷◌, Some, None, true, refl}
 use Rattle.heylo_formula.specs.Formula.{Form, Cond}
 use Rattle.heylo_graph.specs.Trees.{Tree}
 use Rattle.heylo_graph.specs.declared.nodes.Node.{Node}
 use Rattle.heylo_graph.specs.Nodes.{trees_after, tree_at}
 
--- The sum of a variable with itself.
+-- The sum of a variable and itself.
 pair : List Node
 pair = Node.Var 0 ∷ Node.Sum 0 0 ∷ []
 
@@ -17,12 +17,12 @@ none_behind : tree_at pair 2 ≡ None
 unfolding trees_after pair
 none_behind = refl
 
--- A part that stands behind the node is missing, and so is the node's own tree.
+-- A child that is after the node is missing, and so the node has no tree.
 part_behind : tree_at (Node.Sum 0 1 ∷ Node.Var 0 ∷ []) 0 ≡ None
 unfolding trees_after
 part_behind = refl
 
--- A part of the wrong kind.
+-- A child of the wrong kind.
 wrong_kind : tree_at (Node.Truth true ∷ Node.Validate 0 ∷ []) 1 ≡ None
 unfolding trees_after
 wrong_kind = refl

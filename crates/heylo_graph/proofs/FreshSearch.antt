@@ -1,4 +1,4 @@
--- A search from 1,048,576 on comes to the fresh number.
+-- A search from 1,048,576 on finds the fresh number.
 use Rattle.std.proofs.Common.{◌≡◌, ◌⊎◌, inl, inr, ℕ, ◌+◌, ◌≤◌, ◌<◌, ◌^◌, sym, ap, ◌∙◌, arith, Bool, true, false, cond, ◌||◌, List}
 use Prim.Native.Nat.{zero, suc}
 use Rattle.std.proofs.Math.Nat.{eq-or-lt_of_le}
@@ -43,7 +43,7 @@ over a t n f h e = go (eq-or-lt_of_le h)
     go (inl q) = q
     go (inr l) = clash (occurs n a || occurs_in_term n t) ((fresh_is a t).least n f l) e
 
--- A search that has come to n.
+-- A search that has reached `n`.
 pub record IsSearching (ns : List Node) (body : ℕ) (t : Term) (n : ℕ) : Type 0 where
   pub from : 1048576 ≤ n
   pub below : (f : Form) → Stands ns body (Tree.formula f) → n ≤ fresh f t
@@ -57,11 +57,11 @@ search_step ns body t n b h e c = record { from = let k = h.from in omega (arith
 pub search_over : (ns : List Node) (body : ℕ) (t : Term) (n : ℕ) (b : Bool) → IsSearching ns body t n → ((f : Form) → Stands ns body (Tree.formula f) → b ≡ (occurs n f || occurs_in_term n t)) → b ≡ false → (f : Form) → Stands ns body (Tree.formula f) → n ≡ fresh f t
 search_over ns body t n b h e c f s = over f t n h.from (h.below f s) (sym (e f s) ∙ c)
 
--- The next number is one of 32 bits.
+-- The next number has at most 32 bits.
 pub search_fits : (ns : List Node) (body : ℕ) (t : Term) (n : ℕ) (f : Form) → IsSearching ns body t n → Stands ns body (Tree.formula f) → nodes f + nodes_in_term t < 2 ^ 31 → n + 1 < 2 ^ 32
 search_fits ns body t n f h s k = let l = h.below f s in let m = fresh_below f t k in omega (arith, l, m)
 
--- What is told of the tree of a node is told of its formula.
+-- An answer on the tree of a node is an answer on its form.
 pub told_of_formula : {E : Type 0} (ns : List Node) (i x : ℕ) (r : Result Bool E) → IfOk r (λ b. (t : Tree) → Stands ns i t → b ≡ occurs_tree x t) → IfOk r (λ b. (f : Form) → Stands ns i (Tree.formula f) → b ≡ occurs x f)
 told_of_formula ns i x (Ok b) h = λ f s. h (Tree.formula f) s
 told_of_formula ns i x (Err e) h = tt

@@ -1,4 +1,4 @@
--- Where a variable occurs, node by node.
+-- Occurrences of a variable, node by node.
 use Rattle.std.proofs.Common.{◌⊎◌, inl, inr, ◌≡◌, ◌==◌, ◌||◌, ℕ, ◌<◌, ◌≤◌, ◌+◌, Bool, true, false, if◌then◌else◌, List, [], ◌∷◌, ◌++◌, Option, Some, None, length, get_or, length-append, refl, sym, ap, ap₂, subst, ◌∙◌, arith}
 use Rattle.std.proofs.Math.Nat.{eq-or-lt_of_le}
 use Rattle.std.proofs.Math.Seq.{get_or-append_seam}
@@ -12,7 +12,7 @@ use Rattle.heylo_graph.specs.Parts.{first, second, third, variable_of, bound_by}
 use Rattle.heylo_graph.specs.internal.Tables.{PartTree, is_marked, mark_over, AreMarked, PartIsMarked}
 use Rattle.heylo_graph.proofs.PartTrees.{head_tree, first_tree, second_tree, third_tree, taken_apart}
 
--- What is known of a part's tree; no where there is none.
+-- The mark of a child's tree; false if there is no child.
 abbrev Marked : (Tree → Bool) → Option Tree → Bool → Type 0
 Marked f None b = b ≡ false
 Marked f (Some u) b = b ≡ f u
@@ -36,7 +36,7 @@ three a b c p q r e f g = ap₂ (λ x y. x || y) e (ap₂ (λ x y. x || y) f g)
 outside : (b a p : Bool) → p ≡ a → (if b then false else p) ≡ (if b then false else a)
 outside b a p e = ap (λ c. if b then false else c) e
 
--- a binder of the number, or its body
+-- A binder of the variable, or its body.
 within : (b a p : Bool) → p ≡ a → (if b then true else p) ≡ (b || a)
 within true a p e = refl
 within false a p e = e
@@ -103,7 +103,7 @@ marked_over : (binders : Bool) (x : ℕ) (t : Tree) (p q r : Bool) → Marked (i
 marked_over true x t p q r e f g = occurs_over x t p q r e f g
 marked_over false x t p q r e f g = free_over x t p q r e f g
 
--- What is so of a part's tree; no where there is none.
+-- The right mark of a child's tree; false if there is no child.
 abbrev pub marked_part : Bool → ℕ → Option Tree → Bool
 marked_part binders x None = false
 marked_part binders x (Some u) = is_marked binders x u
@@ -118,7 +118,7 @@ part_marked binders x ns None (Some u) b h k = absurd h
 part_marked binders x ns (Some p) None b h k = absurd h
 part_marked binders x ns (Some p) (Some u) b h k = k u h
 
--- What is so of a node's tree, from that of its parts.
+-- The mark of a node's tree follows from those of its children.
 pub marks_of_parts : (binders : Bool) (x : ℕ) (at : ℕ → Option Tree) (n : Node) (t : Tree) → assembled at n ≡ Some t → mark_over binders x (variable_of n) (bound_by n) (marked_part binders x (first_tree t)) (marked_part binders x (second_tree t)) (marked_part binders x (third_tree t)) ≡ is_marked binders x t
 marks_of_parts binders x at n t h =
     let k = taken_apart at n t h in

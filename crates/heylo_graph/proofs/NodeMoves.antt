@@ -1,4 +1,4 @@
--- Nodes whose trees are changed, in one list and in a longer one.
+-- Nodes with changed trees, in one list and in a longer one.
 use Rattle.std.proofs.Common.{◌⊎◌, inl, inr, ◌≤◌, length-append, append_assoc, append-nil, ◌≡◌, ℕ, ◌<◌, ◌+◌, Bool, true, false, List, [], ◌∷◌, ◌++◌, Option, Some, None, length, get_or, replicate, set, slice_get, refl, sym, ap, subst, ◌∙◌, arith}
 use Prim.Native.Nat.{zero, suc}
 use Rattle.std.specs.Prelude.{Result, Ok, Err, IfOk, OnOk}
@@ -42,7 +42,7 @@ noted_within (m ∷ ms) (suc i) j h = let l = noted_within ms i j h in omega (ar
 pub moved_longer : (change : Tree → Tree) (old new : List Node) (notes : List (Option ℕ)) → Begins old new → length notes ≤ length old → AreMoved change old notes → AreMoved change new notes
 moved_longer change old new notes b l m = record { each = λ i j h. moves_longer change old new i j b (let k = noted_within notes i j h in omega (arith, k, l)) (m.each i j h) }
 
--- ---- Notes
+-- ---- Cached results
 
 set_cases : (notes : List (Option ℕ)) (k : ℕ) (v : Option ℕ) (i j : ℕ) → get_or (set notes k v) i None ≡ Some j → ((i ≡ k) × (v ≡ Some j)) ⊎ (get_or notes i None ≡ Some j)
 set_cases [] k v i j h = inr h
@@ -77,7 +77,7 @@ empty_moved change ns notes s = record { each = λ i j h. absurd (s.none i j h) 
 pub ready_begun : (change : Tree → Tree) (x : ℕ) (ns : List Node) (id : ℕ) (table : List Bool) (notes : List (Option ℕ)) → id < length ns → length table ≡ id + 1 → AreMarked false x ns table → length notes ≡ length table → AreEmpty notes → IsReady change x ns table notes
 ready_begun change x ns id table notes l e m k s = record { inside = omega (arith, l, e); free = m; size = k; moved = empty_moved change ns notes s }
 
--- ---- What holds at each call
+-- ---- The invariant of each call
 
 pub ready_longer : (change : Tree → Tree) (x : ℕ) (old new : List Node) (table : List Bool) (notes : List (Option ℕ)) → Begins old new → IsReady change x old table notes → IsReady change x new table notes
 ready_longer change x old new table notes b r = record {
@@ -95,7 +95,7 @@ length_set (y ∷ ys) (suc k) v = ap suc (length_set ys k v)
 pub ready_noted : (change : Tree → Tree) (x : ℕ) (ns : List Node) (table : List Bool) (notes now : List (Option ℕ)) (k r : ℕ) → now ≡ set notes k (Some r) → IsReady change x ns table notes → Moves change ns k r → IsReady change x ns table now
 ready_noted change x ns table notes now k r e h m = subst (IsReady change x ns table) (sym e) (record { inside = h.inside; free = h.free; size = length_set notes k (Some r) ∙ h.size; moved = noted change ns notes k r h.moved m })
 
--- Where the variable isn't free the node stays.
+-- A node in which the variable is not free is its own result.
 pub stays : (change : Tree → Tree) (x : ℕ) (ns : List Node) (table : List Bool) (notes : List (Option ℕ)) (i : ℕ) → ((t : Tree) → is_free_tree x t ≡ false → change t ≡ t) → IsReady change x ns table notes → i < length table → get_or table i false ≡ false → Moves change ns i i
 stays change x ns table notes i kept r l e = record { moves = λ t k. k ∙ ap Some (sym (kept t (sym (r.free.each i t l k) ∙ e))) }
 
@@ -103,13 +103,13 @@ stays change x ns table notes i kept r l e = record { moves = λ t k. k ∙ ap S
 pub free_here : (change : Tree → Tree) (x : ℕ) (ns : List Node) (table : List Bool) (notes : List (Option ℕ)) (i : ℕ) → IsReady change x ns table notes → i < length table → get_or table i false ≡ true → (t : Tree) → tree_at ns i ≡ Some t → is_free_tree x t ≡ true
 free_here change x ns table notes i r l e t k = sym (r.free.each i t l k) ∙ e
 
--- ---- The parts of a node, one after another
+-- ---- The children of a node, one after another
 
 pub part_longer : (change : Tree → Tree) (old new : List Node) (p : Option ℕ) (j i : ℕ) → Begins old new → i < length old → IsBefore p i → PartMoves change old p j → PartMoves change new p j
 part_longer change old new None j i b l h m = tt
 part_longer change old new (Some p) j i b l h m = moves_longer change old new p j b (omega (arith, h, l)) m
 
--- The node with a number, and what its parts were made to, in the list behind the last of them.
+-- A node and the results of its children, in the list after the last of them.
 pub record AllMoved (change : Tree → Tree) (old new : List Node) (i : ℕ) (n : Node) (a b c : ℕ) : Type 0 where
   pub begins : Begins old new
   pub there : slice_get new i ≡ Some n
@@ -133,9 +133,9 @@ all_moved change n0 n1 n2 n3 i n p q r a b c h e f g s t ma mb mc =
       three = subst (λ o. PartMoves change n3 o c) s.2 mc;
     }
 
--- ---- A node that is joined over other parts
+-- ---- The insertion of a node with changed children
 
--- What the changed node is assembled to, at each list from a graph on.
+-- With changed children, the node `m` has the changed tree of the node `n`.
 pub record IsChanged (change : Tree → Tree) (ns : List Node) (n m : Node) : Type 0 where
   pub changed : (t : Tree) → assembled (tree_at ns) n ≡ Some t → assembled (tree_at ns) m ≡ Some (change t)
 
@@ -151,7 +151,7 @@ pub ok_moves : {E : Type 0} (change : Tree → Tree) (old new : List Node) (i : 
 ok_moves change old new i n m (Ok j) h b s k = changed_moves change old new i n m j h b s k
 ok_moves change old new i n m (Err z) h b s k = tt
 
--- The tree of a node of a graph, wherever it is assembled later.
+-- The tree of a node of a graph is the same in every longer list.
 pub tree_here : (old new : List Node) (i : ℕ) (n : Node) (t : Tree) → IsGraph old → slice_get old i ≡ Some n → Begins old new → assembled (tree_at new) n ≡ Some t → tree_at old i ≡ Some t
 tree_here old new i n t g h b e =
     let r = g.each i (slice_get_within old i n h) in
@@ -172,7 +172,7 @@ pub ok_over : {E : Type 0} (old new : List Node) (i : ℕ) (n m : Node) (f : Nod
 ok_over old new i n m f (Ok j) h e s = λ k t q r. s t (ap (assembled (tree_at old)) (e ∙ ap f (some_is n k (sym h ∙ q))) ∙ r)
 ok_over old new i n m f (Err z) h e s = tt
 
--- ---- A node over the parts that were changed one after another
+-- ---- A node with children that were changed one after another
 
 pub node_later : (old new : List Node) (i : ℕ) (n : Node) → Begins old new → slice_get old i ≡ Some n → slice_get new i ≡ Some n
 node_later old new i n b h = ap (λ l. slice_get l i) b.whole ∙ get_left old b.more i (slice_get_within old i n h) ∙ h
@@ -184,12 +184,12 @@ pub made_moves : {E : Type 0} (change : Tree → Tree) (f : Node → Node) (ns n
 made_moves change f ns new i n (Ok j) h s w k = record { moves = λ t e. (k n (change t) h (s.changed t (stands_assembled ns i n t h (same_before ns new i t w (slice_get_within ns i n h) e)))).tree }
 made_moves change f ns new i n (Err z) h s w k = tt
 
--- The changed tree, where the tree itself stands.
+-- The result has the changed tree, if the node has the tree.
 pub ok_changed : {E : Type 0} (change : Tree → Tree) (old new : List Node) (i : ℕ) (o : Result ℕ E) → Begins old new → IfOk o (λ j. Moves change new i j) → IfOk o (λ j. (t : Tree) → Stands old i t → Stands new j (change t))
 ok_changed change old new i (Ok j) b h = λ t s. record { tree = h.moves t ((grows_with old new b).grows i t s.tree) }
 ok_changed change old new i (Err e) b h = tt
 
--- What is noted of a node that is read in the notes.
+-- The cached result of a node, as it was read.
 pub noted_here : (notes : List (Option ℕ)) (i k : ℕ) (r : Option ℕ) (j : ℕ) → k < length notes → i ≡ k → r ≡ get_or notes i r → r ≡ Some j → get_or notes k None ≡ Some j
 noted_here notes i k r j l e h q = some_is (get_or notes k None) (get_or notes k r) (sym (slice_get-get_or notes k None l) ∙ slice_get-get_or notes k r l) ∙ ap (λ z. get_or notes z r) (sym e) ∙ sym h ∙ q
 

@@ -1,4 +1,4 @@
--- Nodes of trees, over parts that stand in a graph.
+-- The nodes of trees, with children in a graph.
 use Rattle.std.proofs.Common.{◌≡◌, ℕ, Bool, List, Option, ap, ◌∙◌, refl}
 use Rattle.heyvl_num.specs.Rational.{Rational}
 use Rattle.heyvl_num.specs.ExtendedNumbers.{value_of}

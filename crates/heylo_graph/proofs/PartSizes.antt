@@ -1,4 +1,4 @@
--- The size of a tree, over those of its parts.
+-- The size of a tree follows from those of its children.
 use Rattle.std.proofs.Common.{◌≡◌, ℕ, ◌+◌, max, Option, Some, None, refl, arith}
 use Rattle.heylo_formula.specs.Formula.{Form, Cond}
 use Rattle.heylo_formula.specs.Sizes.{nodes, nodes_in, depth, depth_in}

@@ -1,4 +1,4 @@
--- A tree and the parts of its node.
+-- A tree, and the children of its node.
 use Prim.Native.Nat.{zero, suc}
 use Rattle.std.proofs.Common.{◌≡◌, ℕ, ◌<◌, List, [], ◌∷◌, Option, Some, None, slice_get, length, refl, sym, ap, subst, ◌∙◌, arith}
 use Rattle.heyvl_num.specs.Value.{Value}
@@ -47,7 +47,7 @@ pub stored_value : (v : Ext) → stored (value_of v) ≡ v
 stored_value (Ext.Fin x) = refl
 stored_value Ext.Inf = refl
 
--- The kind of a tree, as a node over nothing.
+-- The kind of a tree, as a node with the children 0.
 abbrev pub head_tree : Tree → Node
 head_tree (Tree.formula (Form.number v)) = Node.Const (stored v)
 head_tree (Tree.formula (Form.variable w)) = Node.Var w
@@ -164,7 +164,7 @@ third_tree (Tree.condition (Cond.lt k l)) = None
 third_tree (Tree.condition (Cond.equal k l)) = None
 third_tree (Tree.condition (Cond.ite k l m)) = Some (Tree.condition m)
 
--- What a node says of its tree.
+-- A node agrees with the root of its tree.
 pub record Taken (at : ℕ → Option Tree) (n : Node) (t : Tree) : Type 0 where
   pub kind : with_parts n 0 0 0 ≡ head_tree t
   pub variable : variable_of n ≡ variable_of (head_tree t)
@@ -176,7 +176,7 @@ pub record Taken (at : ℕ → Option Tree) (n : Node) (t : Tree) : Type 0 where
 pub some_is : {X : Type 0} (a b : X) → Some a ≡ Some b → a ≡ b
 some_is a b e = cc
 
--- What a node is taken apart to, said of the tree itself.
+-- A statement on the tree of a node, moved to an equal tree.
 taken : (at : ℕ → Option Tree) (n : Node) (t u : Tree) → Taken at n u → Some u ≡ Some t → Taken at n t
 taken at n t u h e = subst (Taken at n) (some_is u t e) h
 
@@ -209,7 +209,7 @@ taken_apart at (Node.Lt a b) t h = let p = form_part at a _ t h in let q = form_
 taken_apart at (Node.EqNum a b) t h = let p = form_part at a _ t h in let q = form_part at b _ t p.rest in taken at (Node.EqNum a b) t (Tree.condition (Cond.equal p.form q.form)) (record { kind = refl; variable = refl; bound = refl; one = p.there; two = q.there; three = tt }) q.rest
 taken_apart at (Node.Ite a b c) t h = let p = cond_part at a _ t h in let q = cond_part at b _ t p.rest in let r = cond_part at c _ t q.rest in taken at (Node.Ite a b c) t (Tree.condition (Cond.ite p.form q.form r.form)) (record { kind = refl; variable = refl; bound = refl; one = p.there; two = q.there; three = r.there }) r.rest
 
--- A part stands before the node, where there is one.
+-- A child has a number below that of the node.
 before_part : (ns : List Node) (i : ℕ) (p : Option ℕ) (u : Option Tree) → length ns ≡ i → PartTree (tree_at ns) p u → IsBefore p i
 before_part ns i None u e h = tt
 before_part ns i (Some p) None e h = absurd h

@@ -1,4 +1,4 @@
--- A node is read as the tree over what its parts were read as.
+-- The tree that is read from a node is the tree over those that are read from its children.
 use Rattle.std.proofs.Common.{◌≡◌, ℕ, Bool, List, Some, slice_get, sym, ap, ap₂, subst, ◌∙◌}
 use Rattle.heyvl_num.specs.Rational.{Rational}
 use Rattle.heyvl_num.specs.ExtendedNumbers.{value_of}
@@ -22,7 +22,7 @@ abbrev cond_in : Tree → Cond → Cond
 cond_in (Tree.formula f) d = d
 cond_in (Tree.condition g) d = g
 
--- A term that was read, as a formula.
+-- The term that is read, as a form.
 pub reads_form : (ns : List Node) (i : ℕ) (s : Term) (k : Form) → k ≡ Put.as_form s → Reads ns i (tree_of_term s) → ReadsForm ns i k
 reads_form ns i (Term.truth g) k e h = record { reads = λ f y. absurd (let q = h.reads (Tree.formula f) y in cc) }
 reads_form ns i (Term.number g) k e h = record { reads = λ f y. e ∙ ap (λ t. form_in t g) (h.reads (Tree.formula f) y) }

@@ -12,7 +12,7 @@ use Rattle.heylo_graph.proofs.ChangedParts.{form_moved, cond_moved, lifted, aske
 use Rattle.heylo_graph.proofs.NodeMoves.{AllMoved, IsChanged, tree_here}
 use Rattle.heylo_graph.proofs.NodesOverParts.{fits, var_node, flag_node}
 
--- A variable that is free under a binder isn't the one that is bound.
+-- A variable that is free in a binder is not the bound one.
 pub unbound : (b c : Bool) → cond b false c ≡ true → (b ≡ false) × (c ≡ true)
 unbound true c h = absurd (cc)
 unbound false c h = (refl, h)
@@ -60,7 +60,7 @@ own_flag y z w e = let q : (y == w) ≡ true = grind (arith, e) in ap (λ b. con
 true_equal : (y w : ℕ) → (y == w) ≡ true → y ≡ w
 true_equal y w h = grind arith
 
--- The variable itself takes the other number.
+-- The renamed variable itself.
 pub renamed_own : (y z : ℕ) (ns : List Node) (n : Node) (x : ℕ) (t : Tree) → variable_of n ≡ Some x → is_free_tree y t ≡ true → assembled (tree_at ns) n ≡ Some t → assembled (tree_at ns) (with_variable n z) ≡ Some (renamed_tree y z t)
 renamed_own y z ns (Node.Const v) x t o f h = absurd (cc)
 renamed_own y z ns (Node.Var w) x t o f h = ap a_form (sym (own_number y z w (true_equal y w (ap (asked (is_free_tree y)) h ∙ f)))) ∙ ap (lifted (renamed_tree y z)) h
@@ -140,7 +140,7 @@ pub renamed_kept : (y z : ℕ) (t : Tree) → is_free_tree y t ≡ false → ren
 renamed_kept y z (Tree.formula f) h = ap Tree.formula (kept_form y z f h)
 renamed_kept y z (Tree.condition g) h = ap Tree.condition (kept_cond y z g h)
 
--- A variable with another number stands by itself.
+-- A variable with another number has no children, and hence fits.
 pub variable_fits : (ns : List Node) (n : Node) (y z : ℕ) → variable_of n ≡ Some y → IsFitting ns (with_variable n z)
 variable_fits ns (Node.Const v) y z e = absurd (cc)
 variable_fits ns (Node.Var w) y z e = fits ns (Node.Var z) _ (var_node ns z)

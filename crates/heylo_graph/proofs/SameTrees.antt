@@ -45,7 +45,7 @@ rebuilt (Node.Lt a b) = refl
 rebuilt (Node.EqNum a b) = refl
 rebuilt (Node.Ite a b c) = refl
 
--- Nodes with the same kind and the same parts.
+-- Two nodes of the same kind with the same children are equal.
 alike : (m n : Node) → with_parts m 0 0 0 ≡ with_parts n 0 0 0 → number_of (first m) ≡ number_of (first n) → number_of (second m) ≡ number_of (second n) → number_of (third m) ≡ number_of (third n) → m ≡ n
 alike m n e p q r = rebuilt m ∙ (λ i. with_parts (e i) (p i) (q i) (r i)) ∙ sym (rebuilt n)
 
@@ -77,7 +77,7 @@ same_below ns g d (suc z) i j t l h k = go (λ a b u m e f. same_below ns g d z 
 pub same_tree : (ns : List Node) → IsGraph ns → AreDifferent ns → (i j : ℕ) (t : Tree) → tree_at ns i ≡ Some t → tree_at ns j ≡ Some t → i ≡ j
 same_tree ns g d i j t h k = same_below ns g d (suc i) i j t (omega arith) h k
 
--- A node whose tree stands is there already.
+-- A node whose tree is in the graph is in the graph.
 pub stands_already : (ns : List Node) (n : Node) (i : ℕ) (t : Tree) → IsGraph ns → AreDifferent ns → assembled (tree_at ns) n ≡ Some t → tree_at ns i ≡ Some t → slice_get ns i ≡ Some n
 stands_already ns n i t g d e h = go (node_at ns i (tree_within ns i t h))
   where
@@ -92,7 +92,7 @@ stands_already ns n i t g d e h = go (node_at ns i (tree_within ns i t h))
         (same_part (tree_at ns) i (second m.0) (second n) (second_tree t) smaller b.1 x.two y.two)
         (same_part (tree_at ns) i (third m.0) (third n) (third_tree t) smaller b.2 x.three y.three))
 
--- ---- Of the set of nodes
+-- ---- The set of nodes
 
 none_equal : {X : Type 0} (e : X → X → Bool) (x : X) (ys : List X) (j : ℕ) → e x x ≡ true → AllByRecursion (λ y. e x y ≡ false) ys → slice_get ys j ≡ Some x → ⊥
 none_equal e x [] j r h k = cc
@@ -122,17 +122,17 @@ found_any test (y ∷ ys) (suc i) x h t = ap (λ b. test y || b) (found_any test
     or_true true = refl
     or_true false = refl
 
--- Nothing is added where the node's tree stands.
+-- No node is added if its tree is in the graph.
 pub adds_none : (old new : List Node) (n : Node) (i : ℕ) (t : Tree) → IsGraph old → IsDistinct (λ m n. node.ghosts.eq m n) old → Stands old i t → assembled (tree_at old) n ≡ Some t → new ≡ (if list_any (λ m. node.ghosts.eq n m) old then old else old ++ n ∷ []) → new ≡ old
 adds_none old new n i t g d s e k = k ∙ ap (λ b. if b then old else old ++ n ∷ []) (found_any (λ m. node.ghosts.eq n m) old i n (stands_already old n i t g (set_differs old d) e s.tree) (self_equal n))
 
--- The node is found where its tree stands.
+-- The node is found if its tree is in the graph.
 pub found_at : (old new : List Node) (n : Node) (i j : ℕ) (t : Tree) → IsGraph old → IsDistinct (λ m n. node.ghosts.eq m n) old → Stands old i t → assembled (tree_at old) n ≡ Some t → new ≡ (if list_any (λ m. node.ghosts.eq n m) old then old else old ++ n ∷ []) → slice_get new j ≡ Some n → j ≡ i
 found_at old new n i j t g d s e k h =
     let different = set_differs old d in
     different.differ j i n (ap (λ l. slice_get l j) (sym (adds_none old new n i t g d s e k)) ∙ h) (stands_already old n i t g different e s.tree)
 
--- The parts of a tree that stands stand too.
+-- The subtrees of a tree that is in the graph are in the graph too.
 abbrev pub PartStands : List Node → Option Tree → Type 0
 PartStands ns None = Unit {0}
 PartStands ns (Some u) = HasTree ns u
@@ -151,7 +151,7 @@ parts_stand ns t h = go (node_at ns h.number (tree_within ns h.number t h.stands
         let x = taken_apart (tree_at ns) n.0 t (stands_assembled ns h.number n.0 t n.1 h.stands.tree) in
         (part_stands ns (first n.0) (first_tree t) x.one, part_stands ns (second n.0) (second_tree t) x.two, part_stands ns (third n.0) (third_tree t) x.three)
 
--- A first part stands where the tree does, and so on.
+-- The first subtree is in the graph if the tree is.
 pub has_first : (ns : List Node) (t u : Tree) → HasTree ns t → first_tree t ≡ Some u → HasTree ns u
 has_first ns t u h e = subst (PartStands ns) e (parts_stand ns t h).0
 
@@ -161,9 +161,9 @@ has_second ns t u h e = subst (PartStands ns) e (parts_stand ns t h).1
 pub has_third : (ns : List Node) (t u : Tree) → HasTree ns t → third_tree t ≡ Some u → HasTree ns u
 has_third ns t u h e = subst (PartStands ns) e (parts_stand ns t h).2
 
--- ---- A form that is put
+-- ---- The insertion of a form
 
--- What holds of each answer holds of the one that there is.
+-- A property of all results, weakened.
 ok_with : {E : Type 0} (r : Result ℕ E) (P Q : ℕ → Type 0) → IfOk r P → ((j : ℕ) → P j → Q j) → IfOk r Q
 ok_with (Ok j) P Q h f = f j h
 ok_with (Err z) P Q h f = tt
@@ -171,7 +171,7 @@ ok_with (Err z) P Q h f = tt
 pub put_stands : {E : Type 0} (mid new : List Node) (n : Node) (t : Tree) (r : Result ℕ E) → IsNodeOf mid n t → IfOk r (λ j. (u : Tree) → assembled (tree_at mid) n ≡ Some u → Stands new j u) → IfOk r (λ j. Stands new j t)
 put_stands mid new n t r g h = ok_with r (λ j. (u : Tree) → assembled (tree_at mid) n ≡ Some u → Stands new j u) (λ j. Stands new j t) h (λ j f. f t g.gives)
 
--- Nothing was added by the parts, and so nothing by the node.
+-- If the children added no node, and neither does the node, nothing is added.
 pub none_added : {E : Type 0} (old mid new : List Node) (n : Node) (t : Tree) (r : Result ℕ E) → HasTree old t → mid ≡ old → IsNodeOf mid n t → ((u : Tree) → HasTree mid u → assembled (tree_at mid) n ≡ Some u → OnOk r (new ≡ mid)) → OnOk r (new ≡ old)
 none_added old mid new n t (Ok j) h e g f = f t (subst (λ l. HasTree l t) (sym e) h) g.gives ∙ e
 none_added old mid new n t (Err z) h e g f = tt

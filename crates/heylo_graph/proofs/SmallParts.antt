@@ -1,4 +1,4 @@
--- Which parts are small, and smaller than the whole.
+-- Children are small if the node is, and smaller than the node.
 use Rattle.std.proofs.Common.{◌≡◌, ℕ, ◌+◌, ◌*◌, ◌<◌, ◌||◌, Bool, true, false, List, Option, Some, None, slice_get, refl, sym, ap, subst, ◌∙◌, arith}
 use Rattle.std.proofs.lemmas.Option.{slice_get_within}
 use Rattle.heylo_formula.specs.Formula.{Form, Cond, Term}
@@ -75,7 +75,7 @@ second_binder t h = binder_over t ∙ or_right (is_some (bound_by (head_tree t))
 third_binder : (t : Tree) → part_binder (third_tree t) ≡ true → has_binder_tree t ≡ true
 third_binder t h = binder_over t ∙ or_right (is_some (bound_by (head_tree t))) _ (or_right (part_binder (first_tree t)) _ (or_right (part_binder (second_tree t)) _ h))
 
--- The number of nodes of what is found at a number.
+-- The number of nodes of the tree with an index; 0 if there is none.
 abbrev pub size_at : List Node → ℕ → ℕ
 size_at ns i = part_nodes (tree_at ns i)
 
@@ -97,7 +97,7 @@ part_small s ns new (Some p) (Some u) t b h l f k = λ v e c.
     let w : nodes_of v ≡ nodes_of u = ap nodes_of q in
     omega (arith, r, w, l)
 
--- What holds of a part of a node in a longer list.
+-- The properties of a child of a node in a longer list.
 pub record SmallPart (s : Term) (ns new : List Node) (i : ℕ) (p : Option ℕ) : Type 0 where
   pub less : part_measure new p < 6 * size_at ns i
   pub small : PartIsSmall s new p

@@ -1,4 +1,4 @@
--- Sizes that are kept beside nodes: what stays right where the list is cut, and where a node is put last.
+-- The stored sizes stay right if the list is truncated, and if a node is appended.
 use Rattle.std.proofs.Common.{◌≡◌, ℕ, ◌+◌, ◌<◌, ◌≤◌, ◌^◌, min, max, Bool, true, false, if◌then◌else◌, ◌⊎◌, inl, inr, List, [], ◌∷◌, ◌++◌, Option, Some, None, length, take, drop, slice_get, refl, sym, ap, ap₂, subst, ◌∙◌, arith, length-append}
 use Prim.Native.Nat.{zero, suc}
 use Rattle.std.proofs.Math.Nat.{eq-or-lt_of_le}
@@ -55,7 +55,7 @@ whole_again sizes z ns e = ap (λ l. take l (sizes ++ z ∷ [])) (sym e) ∙ tak
 whole_more : (sizes : List Size) (z : Size) (ns : List Node) (n : Node) → length sizes ≡ length ns → take (length (ns ++ n ∷ [])) (sizes ++ z ∷ []) ≡ sizes ++ z ∷ []
 whole_more sizes z ns n e = ap (λ l. take l (sizes ++ z ∷ [])) (omega (arith, e, length-append ns (n ∷ []), length-append sizes (z ∷ []))) ∙ take-length (sizes ++ z ∷ [])
 
--- The list with a node, unless it stands there, and the sizes with that of the node, as many as there are nodes.
+-- The list with a node inserted, and its sizes, as many as there are nodes.
 pub stored_inserted : (old new : List Node) (n : Node) (t : Tree) (sizes : List Size) (z : Size) (b : Bool) → IsStored old sizes → assembled (tree_at old) n ≡ Some t → z ≡ size_of t → new ≡ (if b then old else old ++ n ∷ []) → IsStored new (take (length new) (sizes ++ z ∷ []))
 stored_inserted old new n t sizes z true s a e h = subst (λ l. IsStored l (take (length l) (sizes ++ z ∷ []))) (sym h) (subst (IsStored old) (sym (whole_again sizes z old s.sized.count)) s)
 stored_inserted old new n t sizes z false s a e h = subst (λ l. IsStored l (take (length l) (sizes ++ z ∷ []))) (sym h) (subst (IsStored (old ++ n ∷ [])) (sym (whole_more sizes z old n s.sized.count)) (record { graph = graph_inserted old (old ++ n ∷ []) n t false s.graph a refl; sized = sizes_more old n t sizes z a e s.sized }))
@@ -76,7 +76,7 @@ depth_part : (u : Option Tree) → (part_size u).depth ≡ min (2 ^ 63) (part_de
 depth_part None = refl
 depth_part (Some t) = refl
 
--- The size is put together from those of the parts.
+-- The size follows from those of the children.
 pub size_together : (ns : List Node) (n : Node) (t : Tree) (a b c : Size) (x y : ℕ) → assembled (tree_at ns) n ≡ Some t
     → ((u : Option Tree) → PartTree (tree_at ns) (first n) u → a ≡ part_size u)
     → ((u : Option Tree) → PartTree (tree_at ns) (second n) u → b ≡ part_size u)
@@ -99,6 +99,6 @@ cut_stored len ns now sizes left h s e k = subst (λ l. IsStored l left) (sym e)
 pub stored_none : (ns : List Node) (sizes : List Size) → ns ≡ [] → sizes ≡ [] → IsStored ns sizes
 stored_none ns sizes e k = subst (λ l. IsStored l sizes) (sym e) (subst (IsStored []) (sym k) (record { graph = record { each = λ i h. absurd (omega (arith, h)) }; sized = record { count = refl; each = λ i t h. absurd (let l = tree_within [] i t h in omega (arith, l)) } }))
 
--- The same, from what the calls say.
+-- The stored sizes after the calls of the code.
 pub stored_after : (old new : List Node) (n : Node) (t : Tree) (sizes pushed left : List Size) (z : Size) (l : ℕ) (b : Bool) → IsStored old sizes → assembled (tree_at old) n ≡ Some t → z ≡ size_of t → new ≡ (if b then old else old ++ n ∷ []) → l ≡ length new → pushed ≡ sizes ++ z ∷ [] → left ≡ take l pushed → IsStored new left
 stored_after old new n t sizes pushed left z l b s a e h m p k = subst (IsStored new) (sym (k ∙ ap₂ take m p)) (stored_inserted old new n t sizes z b s a e h)

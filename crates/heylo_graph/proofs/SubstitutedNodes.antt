@@ -24,7 +24,7 @@ use Rattle.std.specs.Prelude.{Result, Ok, Err, IfOk}
 use Rattle.std.proofs.lemmas.Option.{slice_get_within}
 use Rattle.heylo_graph.proofs.RenamedNodes.{unbound}
 
--- What a substitution makes of each kind.
+-- A substitution in each kind of leaf and node.
 
 subst_number : (x : ℕ) (s : Term) (v : Value) → Put.subst x s (Form.number v) ≡ Form.number v
 subst_number x s v = search substitutions
@@ -111,7 +111,7 @@ pub subst_kept : (x : ℕ) (s : Term) (t : Tree) → is_free_tree x t ≡ false 
 subst_kept x s (Tree.formula f) h = ap Tree.formula (kept_subst x s f h)
 subst_kept x s (Tree.condition g) h = ap Tree.condition (kept_subst_in x s g h)
 
--- The node of a changed tree is that of the tree.
+-- The node of the result is that of its tree.
 form_by : (x : ℕ) (s : Term) (f k : Form) (t : Tree) → Put.subst x s f ≡ k → a_form f ≡ Some t → a_form k ≡ Some (subst_tree x s t)
 form_by x s f k t e h = ap a_form (sym e) ∙ ap (lifted (subst_tree x s)) h
 
@@ -123,7 +123,7 @@ bound_put x s up w name ty k t o f e =
     let n = (unbound (x == w) (is_free x k) (ap (asked (is_free_tree x)) e ∙ f)).0 in
     form_by x s (Form.bind up w name ty k) (Form.bind up w name ty (Put.subst x s k)) t (subst_bind x s up w name ty k ∙ ap₂ (λ b c. cond b (Form.bind up w name ty k) (cond (c && is_free x k) (Form.bind up (fresh k s) name ty (Put.subst x s (renamed w (fresh k s) k))) (Form.bind up w name ty (Put.subst x s k)))) n o) e
 
--- A binder that captures takes a fresh number.
+-- A binder that captures takes a fresh variable.
 pub captured_put : (x : ℕ) (s : Term) (up : Bool) (w name : ℕ) (ty : _) (k : Form) (t : Tree) → occurs_in_term w s ≡ true → is_free_tree x t ≡ true → a_form (Form.bind up w name ty k) ≡ Some t → a_form (Form.bind up (fresh k s) name ty (Put.subst x s (renamed w (fresh k s) k))) ≡ Some (subst_tree x s t)
 captured_put x s up w name ty k t o f e =
     let n = unbound (x == w) (is_free x k) (ap (asked (is_free_tree x)) e ∙ f) in
@@ -167,7 +167,7 @@ own_number x s w t f h = form_by x s (Form.variable w) (Put.as_form s) t (subst_
 own_flag : (x : ℕ) (s : Term) (w : ℕ) (t : Tree) → is_free_tree x t ≡ true → a_cond (Cond.flag w) ≡ Some t → a_cond (Put.as_cond s) ≡ Some (subst_tree x s t)
 own_flag x s w t f h = cond_by x s (Cond.flag w) (Put.as_cond s) t (subst_in_flag x s w ∙ ap (λ b. cond b (Put.as_cond s) (Cond.flag w)) (ap (asked (is_free_tree x)) h ∙ f)) h
 
--- What stands for the variable itself.
+-- The tree that replaces the variable itself.
 pub subst_own : (x : ℕ) (s : Term) (ns : List Node) (n : Node) (w : ℕ) (t : Tree) → variable_of n ≡ Some w → is_free_tree x t ≡ true → assembled (tree_at ns) n ≡ Some t → Some (put_tree (is_flag n) s) ≡ Some (subst_tree x s t)
 subst_own x s ns (Node.Const v) y t o f h = absurd (cc)
 subst_own x s ns (Node.Var w) y t o f h = own_number x s w t f h
@@ -255,7 +255,7 @@ binder_body at (Node.Ite a b c) x d t e h = absurd (cc)
 rebound_is : (ns : List Node) (up : Bool) (z name : ℕ) (ty : Ty) (r : ℕ) (k : Form) → tree_at ns r ≡ Some (Tree.formula k) → assembled (tree_at ns) (Node.Bind up z name ty r) ≡ a_form (Form.bind up z name ty k)
 rebound_is ns up z name ty r k e = ap (λ o. with (as_form o) (λ d. a_form (Form.bind up z name ty d))) e
 
--- A binder that captures, with a fresh number over the substituted body.
+-- A binder that captures, with a fresh variable and the substituted body.
 pub subst_captured : (x : ℕ) (s : Term) (ns : List Node) (n : Node) (y b z r : ℕ) (t : Tree) → binder_of n ≡ Some (y, b) → occurs_in_term y s ≡ true → is_free_tree x t ≡ true → ((f : Form) → tree_at ns b ≡ Some (Tree.formula f) → z ≡ fresh f s) → ((f : Form) → tree_at ns b ≡ Some (Tree.formula f) → tree_at ns r ≡ Some (Tree.formula (Put.subst x s (renamed y (fresh f s) f)))) → assembled (tree_at ns) n ≡ Some t → assembled (tree_at ns) (with_binder n z r) ≡ Some (subst_tree x s t)
 subst_captured x s ns (Node.Const v) y o z r t e u f i j h = absurd (cc)
 subst_captured x s ns (Node.Var w) y o z r t e u f i j h = absurd (cc)

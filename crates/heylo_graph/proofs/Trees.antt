@@ -17,7 +17,7 @@ pub get_last : {X : Type 0} (xs ys : List X) (y : X) → slice_get (xs ++ y ∷ 
 get_last [] ys y = refl
 get_last (x ∷ xs) ys y = get_last xs ys y
 
--- An element, with what stands before and behind it.
+-- An element, with the elements before and after it.
 pub record Split {X : Type 0} (xs : List X) (i : ℕ) (x : X) : Type 0 where
   pub before : List X
   pub after : List X
@@ -53,7 +53,7 @@ tree_kept ns ms i h = ap (λ l. joined (slice_get l i)) (trees_append [] ns ms) 
 form_is : (f g : Form) → Some (Tree.formula f) ≡ Some (Tree.formula g) → f ≡ g
 form_is f g e = cc
 
--- One formula stands at a number.
+-- The form of a node is unique.
 pub same_form : (ns : List Node) (i : ℕ) (f g : Form) → Stands ns i (Tree.formula f) → Stands ns i (Tree.formula g) → f ≡ g
 same_form ns i f g s u = form_is f g (sym s.tree ∙ u.tree)
 
@@ -100,9 +100,9 @@ graph_more ns n t g e = record { each = λ i h. go i (eq-or-lt_of_le (at_most i 
     go i (inl q) = (t, ap (tree_at (ns ++ n ∷ [])) q ∙ tree_last ns n ∙ e)
     go i (inr l) = let r = g.each i l in (r.0, tree_kept ns (n ∷ []) i l ∙ r.1)
 
--- ---- More trees at hand
+-- ---- More trees
 
--- What is found stays found.
+-- Trees that are found stay the same.
 pub record Grows (at to : ℕ → Option Tree) : Type 0 where
   pub grows : (p : ℕ) (t : Tree) → at p ≡ Some t → to p ≡ Some t
 
@@ -162,7 +162,7 @@ assembled_grows at to (Node.Ite a b c) t g h = cond_grows at to a _ _ t g (λ k.
 pub grows_with : (old new : List Node) → Begins old new → Grows (tree_at old) (tree_at new)
 grows_with old new b = record { grows = λ p t h. (stands_longer old new p t b (record { tree = h })).tree }
 
--- A node that stands in a graph has the tree that its parts give.
+-- A node of a graph has the tree that its children give.
 pub stands_assembled : (ns : List Node) (i : ℕ) (n : Node) (t : Tree) → slice_get ns i ≡ Some n → tree_at ns i ≡ Some t → assembled (tree_at ns) n ≡ Some t
 stands_assembled ns i n t h e =
     let s = split_at ns i n h in
@@ -175,13 +175,13 @@ stands_joined old new id n t g b h e =
     let two = assembled_grows (tree_at old) (tree_at new) n t (grows_with old new b) e in
     record { tree = r.1 ∙ sym one ∙ two }
 
--- ---- A node that is put last, unless an equal one stands there
+-- ---- A node that is appended, unless it is in the list
 
 pub begins_inserted : (old new : List Node) (n : Node) (b : Bool) → new ≡ (if b then old else old ++ n ∷ []) → Begins old new
 begins_inserted old new n true e = record { more = []; whole = e ∙ sym (append-nil old) }
 begins_inserted old new n false e = record { more = n ∷ []; whole = e }
 
--- The same of a list that is known by another name.
+-- The insertion into a list, for an equal list.
 pub joined_as : (old new seen : List Node) (n : Node) (b : Bool) → old ≡ seen → new ≡ (if b then old else old ++ n ∷ []) → IsJoined seen n new
 joined_as old new seen n b e k = subst (λ l. IsJoined l n new) e (record { stood = b; whole = k })
 

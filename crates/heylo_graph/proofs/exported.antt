@@ -1,3 +1,3 @@
--- Lemmas that are meant for the proofs of other crates. All else in proofs/ is private to this crate.
+-- Lemmas for the proofs of other crates. All other proofs are private to this crate.
 pub mod LongerLists
 pub mod NodeParts

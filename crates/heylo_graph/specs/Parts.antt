@@ -1,8 +1,8 @@
--- The parts of a node, and the numbers of variables that it has.
+-- The children of a node, and the variables in it.
 use Rattle.std.specs.Prelude.{ℕ, Bool, true, false, Option, Some, None}
 use Rattle.heylo_graph.specs.declared.nodes.Node.{Node}
 
--- The first part.
+-- The first child of a node.
 abbrev pub first : Node → Option ℕ
 first (Node.Const v) = None
 first (Node.Var w) = None
@@ -32,7 +32,7 @@ first (Node.Lt a b) = Some a
 first (Node.EqNum a b) = Some a
 first (Node.Ite a b c) = Some a
 
--- The second part.
+-- The second child of a node.
 abbrev pub second : Node → Option ℕ
 second (Node.Const v) = None
 second (Node.Var w) = None
@@ -62,7 +62,7 @@ second (Node.Lt a b) = Some b
 second (Node.EqNum a b) = Some b
 second (Node.Ite a b c) = Some b
 
--- The third part.
+-- The third child of a node.
 abbrev pub third : Node → Option ℕ
 third (Node.Const v) = None
 third (Node.Var w) = None
@@ -92,7 +92,7 @@ third (Node.Lt a b) = None
 third (Node.EqNum a b) = None
 third (Node.Ite a b c) = Some c
 
--- The node over other parts.
+-- `with_parts n p q r`: the node `n` with the children `p`, `q` and `r`, as many as it has.
 abbrev pub with_parts : Node → ℕ → ℕ → ℕ → Node
 with_parts (Node.Const v) p q r = Node.Const v
 with_parts (Node.Var w) p q r = Node.Var w
@@ -122,7 +122,7 @@ with_parts (Node.Lt a b) p q r = Node.Lt p q
 with_parts (Node.EqNum a b) p q r = Node.EqNum p q
 with_parts (Node.Ite a b c) p q r = Node.Ite p q r
 
--- The variable that the node is.
+-- The variable of a node that is a variable, numeric or Boolean.
 abbrev pub variable_of : Node → Option ℕ
 variable_of (Node.Const v) = None
 variable_of (Node.Var w) = Some w
@@ -152,7 +152,7 @@ variable_of (Node.Lt a b) = None
 variable_of (Node.EqNum a b) = None
 variable_of (Node.Ite a b c) = None
 
--- The number that the node binds.
+-- The variable that the node binds.
 abbrev pub bound_by : Node → Option ℕ
 bound_by (Node.Const v) = None
 bound_by (Node.Var w) = None
@@ -182,7 +182,7 @@ bound_by (Node.Lt a b) = None
 bound_by (Node.EqNum a b) = None
 bound_by (Node.Ite a b c) = None
 
--- The number that the node binds, and its body.
+-- The variable that the node binds, and its body.
 abbrev pub binder_of : Node → Option (ℕ × ℕ)
 binder_of (Node.Const v) = None
 binder_of (Node.Var w) = None
@@ -212,7 +212,7 @@ binder_of (Node.Lt a b) = None
 binder_of (Node.EqNum a b) = None
 binder_of (Node.Ite a b c) = None
 
--- Whether the node is a Boolean variable.
+-- The node is a Boolean variable.
 abbrev pub is_flag : Node → Bool
 is_flag (Node.Const v) = false
 is_flag (Node.Var w) = false
@@ -242,7 +242,7 @@ is_flag (Node.Lt a b) = false
 is_flag (Node.EqNum a b) = false
 is_flag (Node.Ite a b c) = false
 
--- The node of another variable, where it is one.
+-- The node with the variable `x`, if it is a variable.
 abbrev pub with_variable : Node → ℕ → Node
 with_variable (Node.Const v) x = Node.Const v
 with_variable (Node.Var w) x = Node.Var x
@@ -272,7 +272,7 @@ with_variable (Node.Lt a b) x = Node.Lt a b
 with_variable (Node.EqNum a b) x = Node.EqNum a b
 with_variable (Node.Ite a b c) x = Node.Ite a b c
 
--- The binder of another number over another body, where it is one.
+-- The node with the bound variable `x` and the body `p`, if it is a binder.
 abbrev pub with_binder : Node → ℕ → ℕ → Node
 with_binder (Node.Const v) x p = Node.Const v
 with_binder (Node.Var w) x p = Node.Var w

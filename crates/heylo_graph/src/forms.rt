@@ -1,5 +1,5 @@
-//! Trees that are read out of a graph. Boxes are made in calls of their own, so that each level of a deep tree takes little
-//! stack.
+//! Reading trees from a graph. Boxes are made in separate calls, so that each level of a deep tree
+//! needs little stack.
 
 ghost use Rattle.std.specs.Prelude.{◌≡◌, ◌<◌, length, slice_get, Some, IfOk};
 ghost use Rattle.heylo_formula.specs.PlainTrees.{form_of, cond_of, term_of};
@@ -16,7 +16,7 @@ use heyvl_num::Ext;
 use std::alloc::AllocError;
 
 impl Graph {
-    /// The formula of a node, in which each occurrence of a part is a tree of its own. Want of memory is the one error.
+    /// Returns the form of a node. A node that occurs several times is copied each time.
     pub fn tree(&self, id: NodeId) -> Result<Form, AllocError>
         requires { IsFormula self.now id }
         ensures { IfOk result (λ form. Stands self.now id (Tree.formula (form_of form))) }
@@ -25,7 +25,7 @@ impl Graph {
         Ok(as_form(term))
     }
 
-    /// The node with a number; its parts have smaller ones.
+    /// Returns the node with a number. Its children have smaller numbers.
     fn node_before(&self, id: NodeId) -> &Node
         requires { id < length self.now }
         ensures node { slice_get self.now id ≡ Some result.now }
@@ -36,7 +36,7 @@ impl Graph {
         self.node(id)
     }
 
-    /// The formula or condition of a node.
+    /// Returns the form or the condition of a node.
     #[cycle(reading)]
     fn read(&self, id: NodeId) -> Result<Term, AllocError>
         requires { id < length self.now }
@@ -129,7 +129,6 @@ impl Graph {
         }
     }
 
-    /// The formula of a node, in a box.
     #[cycle(reading)]
     #[tactic(auto, using(crate::proofs::Readings::reads_form, crate::proofs::Readings::reads_cond))]
     #[inline(never)]
@@ -141,7 +140,6 @@ impl Graph {
         Ok(Box::new(self.alloc(), as_form(term))?)
     }
 
-    /// Both, each in a box.
     #[cycle(reading)]
     #[tactic(auto, using(crate::proofs::Readings::reads_form, crate::proofs::Readings::reads_cond))]
     #[inline(never)]
@@ -155,7 +153,6 @@ impl Graph {
         Ok((first, self.form_boxed(right)?))
     }
 
-    /// The condition of a node, in a box.
     #[cycle(reading)]
     #[tactic(auto, using(crate::proofs::Readings::reads_form, crate::proofs::Readings::reads_cond))]
     #[inline(never)]
@@ -167,7 +164,6 @@ impl Graph {
         Ok(Box::new(self.alloc(), as_cond(term))?)
     }
 
-    /// Both, each in a box.
     #[cycle(reading)]
     #[tactic(auto, using(crate::proofs::Readings::reads_form, crate::proofs::Readings::reads_cond))]
     #[inline(never)]
@@ -182,7 +178,6 @@ impl Graph {
     }
 }
 
-/// The term as a formula: 0 where it is a condition.
 fn as_form(term: Term) -> Form
     ensures { form_of result ≡ Put.as_form (term_of term) }
 {
@@ -192,7 +187,6 @@ fn as_form(term: Term) -> Form
     }
 }
 
-/// The term as a condition: false where it is a formula.
 fn as_cond(term: Term) -> Cond
     ensures { cond_of result ≡ Put.as_cond (term_of term) }
 {

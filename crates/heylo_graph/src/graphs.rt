@@ -1,9 +1,11 @@
-//! Graphs: lists of nodes in which equal ones stand once, with the sizes of their trees.
+//! Graphs: lists of different nodes, with the sizes of their trees.
 
-ghost use Rattle.std.specs.Prelude.{◌^◌, ◌≡◌, ◌<◌, ◌≤◌, ℕ, [], List, Option, length, min, take, slice_get, IfOk, OnErr, Some, OnOk};
+ghost use Rattle.std.specs.Prelude.{◌^◌, ◌≡◌, ◌<◌, ◌≤◌, ℕ, [], List, Option, length, min, take};
+ghost use Rattle.std.specs.Prelude.{slice_get, IfOk, OnErr, Some, OnOk};
 ghost use Rattle.heylo_graph.specs.Trees.{Tree, nodes_of, depth_of};
 ghost use Rattle.heylo_graph.specs.Parts.{first, second, third};
-ghost use Rattle.heylo_graph.specs.Nodes.{Stands, IsGraph, IsNodeOf, IsFitting, IsJoined, AreDifferent, Begins, HasTree, assembled, tree_at};
+ghost use Rattle.heylo_graph.specs.Nodes.{Stands, IsGraph, IsNodeOf, IsFitting, IsJoined};
+ghost use Rattle.heylo_graph.specs.Nodes.{AreDifferent, Begins, HasTree, assembled, tree_at};
 ghost use Rattle.heylo_graph.specs.internal.StoredSizes.{size_of, part_size};
 ghost use Rattle.heylo_graph.specs.internal.Tables.{IsBefore, PartTree};
 
@@ -14,8 +16,9 @@ use indexmap::IndexSet;
 use std::alloc::{AllocError, Global};
 use std::marker::Model;
 
-/// A list of different nodes, each of whose parts stands before it. It takes its memory from the allocator that it was made
-/// with. A node never changes its number or its tree; new nodes are put last.
+/// A list of different nodes, in which the children of each node are before it. It allocates from
+/// the allocator with which it was made. A node never changes its number or its tree; new nodes are
+/// appended.
 #[derive(Drop)]
 pub struct Graph {
     nodes: IndexSet<Node>,
@@ -36,14 +39,14 @@ impl Model for Graph {
 }
 
 impl Graph {
-    /// The empty list. It takes no memory yet; the error is there for lists that do.
+    /// Returns the empty graph. Nothing is allocated; the error is for implementations that
+    /// allocate.
     pub fn new(alloc: Global) -> Result<Graph, AllocError>
         ensures { IfOk result (λ graph. graph ≡ []) }
     {
         Ok(Graph::empty(alloc))
     }
 
-    /// No nodes.
     fn empty(alloc: Global) -> Graph
         ensures { result ≡ [] }
     {
@@ -54,7 +57,7 @@ impl Graph {
         }
     }
 
-    /// The number of nodes, below 2^63.
+    /// Returns the number of nodes, which is below 2^63.
     pub fn len(&self) -> usize
         ensures len { result ≡ length self.now }
         ensures small { result < 2 ^ 63 }
@@ -63,7 +66,7 @@ impl Graph {
         self.nodes.len()
     }
 
-    /// The node with a number.
+    /// Returns the node with a number.
     pub fn node(&self, id: NodeId) -> &Node
         requires { id < length self.now }
         ensures node { slice_get self.now id ≡ Some result.now }
@@ -73,7 +76,7 @@ impl Graph {
         &self.nodes.as_slice()[id.index()]
     }
 
-    /// The number of nodes of a node's tree, at most 2^63.
+    /// Returns the number of nodes of a node's tree, or 2^63 if it is larger.
     pub fn nodes(&self, id: NodeId) -> u64
         requires { id < length self.now }
         ensures { (t : Tree) → Stands self.now id t → result ≡ min (2 ^ 63) (nodes_of t) }
@@ -81,7 +84,8 @@ impl Graph {
         self.sizes[id.index()].nodes
     }
 
-    /// The number of nodes on the longest way down a node's tree, where a leaf has depth 1; at most 2^63.
+    /// Returns the number of nodes on a longest path from the root of a node's tree to a leaf, or
+    /// 2^63 if it is larger. A leaf has depth 1.
     pub fn depth(&self, id: NodeId) -> u64
         requires { id < length self.now }
         ensures { (t : Tree) → Stands self.now id t → result ≡ min (2 ^ 63) (depth_of t) }
@@ -89,12 +93,11 @@ impl Graph {
         self.sizes[id.index()].depth
     }
 
-    /// The allocator that the graph was made with.
     pub(crate) fn alloc(&self) -> Global {
         self.alloc
     }
 
-    /// Keeps the first nodes alone.
+    /// Removes all nodes but the first `len`.
     pub fn cut(&mut self, len: usize)
         requires { len ≤ length self.old }
         ensures { self.new ≡ take len self.old }
@@ -103,19 +106,23 @@ impl Graph {
         self.sizes.truncate(len);
     }
 
-    /// The node, put last unless it stands there already, where it has the number that it had. Its parts have to stand
-    /// there, and to be of the right kinds. Want of memory is the one error, and leaves the list as it was.
+    /// Inserts a node, whose children have to be in the graph and of the right kinds, and returns
+    /// its number. A node that is in the graph already keeps its number; otherwise it is appended.
+    /// On an error the graph is unchanged.
     pub fn join(&mut self, node: Node) -> Result<NodeId, AllocError>
         requires { IsFitting self.old node }
         ensures begins { OnOk result (Begins self.old self.new) }
         ensures last { OnOk result (IsJoined self.old node self.new) }
         ensures joined { IfOk result (λ id. slice_get self.new id ≡ Some node) }
-        ensures tree { IfOk result (λ id. (t : Tree) → assembled (tree_at self.old) node ≡ Some t → Stands self.new id t) }
-        ensures present { (t : Tree) → HasTree self.old t → assembled (tree_at self.old) node ≡ Some t → OnOk result (self.new ≡ self.old) }
-        ensures number { (i : ℕ) (t : Tree) → Stands self.old i t → assembled (tree_at self.old) node ≡ Some t → IfOk result (λ id. id ≡ i) }
+        ensures tree { IfOk result (λ id. (t : Tree) → assembled (tree_at self.old) node ≡ Some t
+            → Stands self.new id t) }
+        ensures present { (t : Tree) → HasTree self.old t
+            → assembled (tree_at self.old) node ≡ Some t → OnOk result (self.new ≡ self.old) }
+        ensures number { (i : ℕ) (t : Tree) → Stands self.old i t
+            → assembled (tree_at self.old) node ≡ Some t → IfOk result (λ id. id ≡ i) }
         ensures err { OnErr result (self.new ≡ self.old) }
     {
-        // No value, but the proof has to know of its type.
+        // Makes the type known to the proof.
         let _known: Option<Ext> = None;
         let _count = self.nodes.len();
         let size = self.size_over(&node);
@@ -127,7 +134,7 @@ impl Graph {
         Ok(NodeId::new(index))
     }
 
-    /// The size of a node's tree, from those of its parts.
+    /// Returns the size of a node's tree, from the sizes of its children.
     fn size_over(&self, node: &Node) -> Size
         requires { IsFitting self.now node.now }
         ensures { (t : Tree) → assembled (tree_at self.now) node.now ≡ Some t → result ≡ size_of t }
@@ -141,7 +148,6 @@ impl Graph {
         }
     }
 
-    /// The size of a part's tree, of no nodes where there is no part.
     fn part_size(&self, part: Option<NodeId>) -> Size
         requires { IsBefore part (length self.now) }
         ensures { (t : Option Tree) → PartTree (tree_at self.now) part t → result ≡ part_size t }

@@ -1,4 +1,4 @@
-//! Formulas and conditions that are put into a graph.
+//! Inserting forms and conditions into a graph.
 
 ghost use Rattle.std.specs.Prelude.{◌≡◌, ℕ, IfOk, OnErr, OnOk};
 ghost use Rattle.heylo_formula.specs.PlainTrees.{form_of, cond_of};
@@ -12,13 +12,16 @@ use heyvl_num::Ext;
 use std::alloc::AllocError;
 
 impl Graph {
-    /// A formula, of whose nodes those that don't stand there are put last. A formula that stands there adds none, and has
-    /// the number that it had. Want of memory is the one error, and leaves the list as it was.
+    /// Inserts a form and returns its number. Its nodes that are not in the graph are appended. A
+    /// form that is in the graph already adds no node and keeps its number. On an error the graph
+    /// is unchanged.
     pub fn put(&mut self, form: &Form) -> Result<NodeId, AllocError>
         ensures begins { OnOk result (Begins self.old self.new) }
         ensures tree { IfOk result (λ id. Stands self.new id (Tree.formula (form_of form.now))) }
-        ensures present { HasTree self.old (Tree.formula (form_of form.now)) → OnOk result (self.new ≡ self.old) }
-        ensures number { (i : ℕ) → Stands self.old i (Tree.formula (form_of form.now)) → IfOk result (λ id. id ≡ i) }
+        ensures present { HasTree self.old (Tree.formula (form_of form.now))
+            → OnOk result (self.new ≡ self.old) }
+        ensures number { (i : ℕ) → Stands self.old i (Tree.formula (form_of form.now))
+            → IfOk result (λ id. id ≡ i) }
         ensures err { OnErr result (self.new ≡ self.old) }
     {
         let len = self.len();
@@ -29,12 +32,14 @@ impl Graph {
         result
     }
 
-    /// A condition, by the rules for formulas.
+    /// Inserts a condition and returns its number, by the rules of `put`.
     pub fn put_cond(&mut self, cond: &Cond) -> Result<NodeId, AllocError>
         ensures begins { OnOk result (Begins self.old self.new) }
         ensures tree { IfOk result (λ id. Stands self.new id (Tree.condition (cond_of cond.now))) }
-        ensures present { HasTree self.old (Tree.condition (cond_of cond.now)) → OnOk result (self.new ≡ self.old) }
-        ensures number { (i : ℕ) → Stands self.old i (Tree.condition (cond_of cond.now)) → IfOk result (λ id. id ≡ i) }
+        ensures present { HasTree self.old (Tree.condition (cond_of cond.now))
+            → OnOk result (self.new ≡ self.old) }
+        ensures number { (i : ℕ) → Stands self.old i (Tree.condition (cond_of cond.now))
+            → IfOk result (λ id. id ≡ i) }
         ensures err { OnErr result (self.new ≡ self.old) }
     {
         let len = self.len();
@@ -45,27 +50,30 @@ impl Graph {
         result
     }
 
-    /// A formula; the list may have grown where there is want of memory.
+    /// Inserts a form. On an error some nodes may have been appended.
     #[cycle(putting)]
     pub(crate) fn put_form(&mut self, form: &Form) -> Result<NodeId, AllocError>
         ensures begins { Begins self.old self.new }
         ensures tree { IfOk result (λ id. Stands self.new id (Tree.formula (form_of form.now))) }
-        ensures present { HasTree self.old (Tree.formula (form_of form.now)) → OnOk result (self.new ≡ self.old) }
-        ensures number { (i : ℕ) → Stands self.old i (Tree.formula (form_of form.now)) → IfOk result (λ id. id ≡ i) }
+        ensures present { HasTree self.old (Tree.formula (form_of form.now))
+            → OnOk result (self.new ≡ self.old) }
+        ensures number { (i : ℕ) → Stands self.old i (Tree.formula (form_of form.now))
+            → IfOk result (λ id. id ≡ i) }
     {
-        // No value, but the proof has to know of its type.
+        // Makes the type known to the proof.
         let _known: Option<Ext> = None;
         let node = self.formula_node(form)?;
         self.join(node)
     }
 
-    /// The node of a formula, over its parts, which are put.
+    /// Inserts the children of a form and returns its node.
     #[cycle(putting)]
     #[tactic(auto, using(crate::proofs::NodesOverParts::nodes_over_parts, crate::proofs::Trees::stands_longer))]
     fn formula_node(&mut self, form: &Form) -> Result<Node, AllocError>
         ensures begins { Begins self.old self.new }
         ensures node { IfOk result (λ n. IsNodeOf self.new n (Tree.formula (form_of form.now))) }
-        ensures present { HasTree self.old (Tree.formula (form_of form.now)) → OnOk result (self.new ≡ self.old) }
+        ensures present { HasTree self.old (Tree.formula (form_of form.now))
+            → OnOk result (self.new ≡ self.old) }
     {
         match form {
             Form::Const(v) => Ok(Node::Const(*v)),
@@ -133,27 +141,30 @@ impl Graph {
         }
     }
 
-    /// A condition; the list may have grown where there is want of memory.
+    /// Inserts a condition. On an error some nodes may have been appended.
     #[cycle(putting)]
     pub(crate) fn put_part(&mut self, cond: &Cond) -> Result<NodeId, AllocError>
         ensures begins { Begins self.old self.new }
         ensures tree { IfOk result (λ id. Stands self.new id (Tree.condition (cond_of cond.now))) }
-        ensures present { HasTree self.old (Tree.condition (cond_of cond.now)) → OnOk result (self.new ≡ self.old) }
-        ensures number { (i : ℕ) → Stands self.old i (Tree.condition (cond_of cond.now)) → IfOk result (λ id. id ≡ i) }
+        ensures present { HasTree self.old (Tree.condition (cond_of cond.now))
+            → OnOk result (self.new ≡ self.old) }
+        ensures number { (i : ℕ) → Stands self.old i (Tree.condition (cond_of cond.now))
+            → IfOk result (λ id. id ≡ i) }
     {
-        // No value, but the proof has to know of its type.
+        // Makes the type known to the proof.
         let _known: Option<Ext> = None;
         let node = self.condition_node(cond)?;
         self.join(node)
     }
 
-    /// The node of a condition, over its parts, which are put.
+    /// Inserts the children of a condition and returns its node.
     #[cycle(putting)]
     #[tactic(auto, using(crate::proofs::NodesOverParts::nodes_over_parts, crate::proofs::Trees::stands_longer))]
     fn condition_node(&mut self, cond: &Cond) -> Result<Node, AllocError>
         ensures begins { Begins self.old self.new }
         ensures node { IfOk result (λ n. IsNodeOf self.new n (Tree.condition (cond_of cond.now))) }
-        ensures present { HasTree self.old (Tree.condition (cond_of cond.now)) → OnOk result (self.new ≡ self.old) }
+        ensures present { HasTree self.old (Tree.condition (cond_of cond.now))
+            → OnOk result (self.new ≡ self.old) }
     {
         match cond {
             Cond::Const(b) => Ok(Node::Truth(*b)),
@@ -199,7 +210,8 @@ impl Graph {
         ensures begins { Begins self.old self.new }
         ensures left { IfOk result (λ ids. Stands self.new ids.0 (Tree.formula (form_of a.now))) }
         ensures right { IfOk result (λ ids. Stands self.new ids.1 (Tree.formula (form_of b.now))) }
-        ensures present { HasTree self.old (Tree.formula (form_of a.now)) → HasTree self.old (Tree.formula (form_of b.now)) → OnOk result (self.new ≡ self.old) }
+        ensures present { HasTree self.old (Tree.formula (form_of a.now))
+            → HasTree self.old (Tree.formula (form_of b.now)) → OnOk result (self.new ≡ self.old) }
     {
         let left = self.put_form(a)?;
         let right = self.put_form(b)?;
@@ -211,8 +223,11 @@ impl Graph {
     fn put_conds(&mut self, g: &Cond, h: &Cond) -> Result<(NodeId, NodeId), AllocError>
         ensures begins { Begins self.old self.new }
         ensures left { IfOk result (λ ids. Stands self.new ids.0 (Tree.condition (cond_of g.now))) }
-        ensures right { IfOk result (λ ids. Stands self.new ids.1 (Tree.condition (cond_of h.now))) }
-        ensures present { HasTree self.old (Tree.condition (cond_of g.now)) → HasTree self.old (Tree.condition (cond_of h.now)) → OnOk result (self.new ≡ self.old) }
+        ensures right { IfOk result
+            (λ ids. Stands self.new ids.1 (Tree.condition (cond_of h.now))) }
+        ensures present { HasTree self.old (Tree.condition (cond_of g.now))
+            → HasTree self.old (Tree.condition (cond_of h.now))
+            → OnOk result (self.new ≡ self.old) }
     {
         let left = self.put_part(g)?;
         let right = self.put_part(h)?;
@@ -231,7 +246,9 @@ impl Graph {
         ensures test { IfOk result (λ ids. Stands self.new ids.0 (Tree.condition (cond_of g.now))) }
         ensures left { IfOk result (λ ids. Stands self.new ids.1 (Tree.formula (form_of a.now))) }
         ensures right { IfOk result (λ ids. Stands self.new ids.2 (Tree.formula (form_of b.now))) }
-        ensures present { HasTree self.old (Tree.condition (cond_of g.now)) → HasTree self.old (Tree.formula (form_of a.now)) → HasTree self.old (Tree.formula (form_of b.now)) → OnOk result (self.new ≡ self.old) }
+        ensures present { HasTree self.old (Tree.condition (cond_of g.now))
+            → HasTree self.old (Tree.formula (form_of a.now))
+            → HasTree self.old (Tree.formula (form_of b.now)) → OnOk result (self.new ≡ self.old) }
     {
         let test = self.put_part(g)?;
         let (left, right) = self.put_both(a, b)?;
@@ -249,8 +266,12 @@ impl Graph {
         ensures begins { Begins self.old self.new }
         ensures test { IfOk result (λ ids. Stands self.new ids.0 (Tree.condition (cond_of g.now))) }
         ensures left { IfOk result (λ ids. Stands self.new ids.1 (Tree.condition (cond_of h.now))) }
-        ensures right { IfOk result (λ ids. Stands self.new ids.2 (Tree.condition (cond_of k.now))) }
-        ensures present { HasTree self.old (Tree.condition (cond_of g.now)) → HasTree self.old (Tree.condition (cond_of h.now)) → HasTree self.old (Tree.condition (cond_of k.now)) → OnOk result (self.new ≡ self.old) }
+        ensures right { IfOk result
+            (λ ids. Stands self.new ids.2 (Tree.condition (cond_of k.now))) }
+        ensures present { HasTree self.old (Tree.condition (cond_of g.now))
+            → HasTree self.old (Tree.condition (cond_of h.now))
+            → HasTree self.old (Tree.condition (cond_of k.now))
+            → OnOk result (self.new ≡ self.old) }
     {
         let test = self.put_part(g)?;
         let (left, right) = self.put_conds(h, k)?;

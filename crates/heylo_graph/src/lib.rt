@@ -1,4 +1,6 @@
-//! Formulas as nodes of a graph in which equal parts stand once.
+//! Forms and conditions as nodes of a graph, in which equal subtrees are one node.
+//!
+//! `AllocError` means that memory ran out.
 #![tactic(auto)]
 
 mod forms;

@@ -1,4 +1,4 @@
-//! Where variables occur.
+//! Occurrences of variables in a graph.
 
 ghost use Rattle.std.specs.Prelude.{◌≡◌, ◌<◌, ◌+◌, ◌||◌, Bool, List, length, IfOk, Some};
 ghost use Rattle.heylo_graph.specs.Trees.{Tree, is_free_tree, occurs_tree};
@@ -11,10 +11,11 @@ use crate::graphs::Graph;
 use crate::nodes::{Node, NodeId};
 use std::alloc::AllocError;
 
-/// What the table tells of a part; no where there is none.
+/// Returns the mark of a child; false if there is none.
 fn part_mark(table: &[bool], part: Option<NodeId>) -> bool
     requires { IsBefore part (length table.now) }
-    ensures { (binders : Bool) (x : _) (ns : List NodeValue) → AreMarked binders x ns table.now → PartIsMarked binders x ns part result }
+    ensures { (binders : Bool) (x : _) (ns : List NodeValue) → AreMarked binders x ns table.now
+        → PartIsMarked binders x ns part result }
 {
     match part {
         None => false,
@@ -22,19 +23,19 @@ fn part_mark(table: &[bool], part: Option<NodeId>) -> bool
     }
 }
 
-/// Whether one of the three is so.
 fn one_of(a: bool, b: bool, c: bool) -> bool
     ensures { result ≡ (a || (b || c)) }
 {
     a || (b || c)
 }
 
-/// Whether the variable occurs in a node, by the table.
+/// Returns whether the variable occurs in a node, from the marks of its children.
 fn mark_by(node: &Node, var: u32, binders: bool, table: &[bool]) -> bool
     requires first { IsBefore (first node.now) (length table.now) }
     requires second { IsBefore (second node.now) (length table.now) }
     requires third { IsBefore (third node.now) (length table.now) }
-    ensures { (ns : List NodeValue) (t : Tree) → AreMarked binders var ns table.now → assembled (tree_at ns) node.now ≡ Some t → result ≡ is_marked binders var t }
+    ensures { (ns : List NodeValue) (t : Tree) → AreMarked binders var ns table.now
+        → assembled (tree_at ns) node.now ≡ Some t → result ≡ is_marked binders var t }
 {
     match node.variable_of() {
         Some(x) => var == x,
@@ -55,7 +56,7 @@ fn mark_by(node: &Node, var: u32, binders: bool, table: &[bool]) -> bool
 }
 
 impl Graph {
-    /// Whether the variable is free in the tree of a node. Want of memory is the one error.
+    /// Returns whether the variable is free in the tree of a node.
     pub fn free(&self, id: NodeId, var: u32) -> Result<bool, AllocError>
         requires { id < length self.now }
         ensures { IfOk result (λ b. (t : Tree) → Stands self.now id t → b ≡ is_free_tree var t) }
@@ -64,7 +65,8 @@ impl Graph {
         Ok(table[id.index()])
     }
 
-    /// Whether the number occurs in a node's tree at all, as a variable or as what a binder binds. Want of memory is the one error.
+    /// Returns whether the number occurs in the tree of a node, as a variable or as the variable of
+    /// a binder.
     pub fn occurs(&self, id: NodeId, var: u32) -> Result<bool, AllocError>
         requires { id < length self.now }
         ensures { IfOk result (λ b. (t : Tree) → Stands self.now id t → b ≡ occurs_tree var t) }
@@ -73,7 +75,8 @@ impl Graph {
         Ok(table[id.index()])
     }
 
-    /// In which nodes up to this one the variable occurs; where binders don't count: in which it is free.
+    /// Returns the marks of the nodes up to `id`: whether the variable occurs if `binders`, where
+    /// the variables of binders count; otherwise whether it is free.
     pub(crate) fn marks(&self, id: NodeId, var: u32, binders: bool) -> Result<Vec<bool>, AllocError>
         requires { id < length self.now }
         ensures len { IfOk result (λ t. length t.items ≡ id + 1) }
@@ -88,7 +91,6 @@ impl Graph {
         Ok(table)
     }
 
-    /// How many nodes there are up to this one.
     fn count_to(&self, id: NodeId) -> usize
         requires { id < length self.now }
         ensures { result ≡ id + 1 }
@@ -101,7 +103,7 @@ impl Graph {
         }
     }
 
-    /// Whether the variable occurs in a node, by the table of those before it.
+    /// Returns whether the variable occurs in node `i`, from the marks of the nodes before it.
     fn mark_at(&self, i: usize, var: u32, binders: bool, table: &[bool]) -> bool
         requires within { i < length self.now }
         requires size { length table.now ≡ i }

@@ -1,14 +1,15 @@
 //! Nodes of a graph.
 
 ghost use Rattle.std.specs.Prelude.{◌≡◌};
-ghost use Rattle.heylo_graph.specs.Parts.{first, second, third, with_parts, variable_of, bound_by, binder_of, is_flag, with_variable, with_binder};
+ghost use Rattle.heylo_graph.specs.Parts.{first, second, third, with_parts, variable_of, bound_by};
+ghost use Rattle.heylo_graph.specs.Parts.{binder_of, is_flag, with_variable, with_binder};
 
 use heylo_formula::Ty;
 use heyvl_num::{Ext, Frac};
 use heyvl_places::Span;
 use std::marker::Model;
 
-/// The number of a node in a graph: its place in the list, from 0.
+/// The number of a node in a graph: its index in the list, counted from 0.
 #[derive(Clone, Copy, Debug, PartialEq, Eq, Hash)]
 pub struct NodeId {
     index: usize,
@@ -25,14 +26,14 @@ impl Model for NodeId {
 }
 
 impl NodeId {
-    /// The node with this number.
+    /// Returns the number of the node at `index`.
     pub fn new(index: usize) -> NodeId
         ensures { result ≡ index }
     {
         NodeId { index }
     }
 
-    /// The number.
+    /// Returns the index.
     pub fn index(self) -> usize
         ensures { result ≡ self }
     {
@@ -40,41 +41,42 @@ impl NodeId {
     }
 }
 
-/// A node of a formula or of a condition, with the numbers of its parts in place of the boxes.
+/// A node of a form or of a condition, with the numbers of its children in place of boxes.
 #[derive(Clone, Copy, Debug, PartialEq, Eq, Hash)]
 pub enum Node {
-    /// A number, or infinity.
+    /// A fraction or infinity.
     Const(Ext),
     /// The value of a numeric variable.
     Var(u32),
     Sum(NodeId, NodeId),
-    /// The plain difference, of whole numbers, which may be negative.
+    /// The plain difference of integers, which may be negative.
     Diff(NodeId, NodeId),
-    /// The truncated difference: 0 where the second part is greater.
+    /// The truncated difference: 0 if the second operand is larger.
     Cut(NodeId, NodeId),
     Scale(Frac, NodeId),
     /// The product, with the place of its operator in the text.
     Product(NodeId, NodeId, Span),
     Min(NodeId, NodeId),
     Max(NodeId, NodeId),
-    /// Implication (Goedel's): infinity where the first part is at most the second, else the second.
+    /// Implication (Goedel's): infinity if the first operand is at most the second, otherwise the
+    /// second.
     Imply(NodeId, NodeId),
-    /// Coimplication: 0 where the first part is at least the second, else the second.
+    /// Coimplication: 0 if the first operand is at least the second, otherwise the second.
     CoImply(NodeId, NodeId),
-    /// Infinity where the part is infinity, else 0.
+    /// Infinity if the operand is infinite, otherwise 0.
     Validate(NodeId),
-    /// 0 where the part is 0, else infinity.
+    /// 0 if the operand is 0, otherwise infinity.
     CoValidate(NodeId),
-    /// Infinity where the condition holds, else 0.
+    /// Infinity if the condition holds, otherwise 0.
     Embed(NodeId),
-    /// 1 where the condition holds, else 0.
+    /// 1 if the condition holds, otherwise 0.
     Iverson(NodeId),
-    /// The second part where the condition, which is the first, holds, else the third.
+    /// The second child if the first, a condition, holds, otherwise the third.
     Select(NodeId, NodeId, NodeId),
-    /// A binder: whether it is a supremum (else it is an infimum), the number that it binds, the number of the variable
-    /// whose name it bears, the type of that variable, and the body.
+    /// A binder: whether it is a supremum (otherwise it is an infimum), the variable that it binds,
+    /// the variable after which it is named, the type of the bound variable, and the body.
     Bind(bool, u32, u32, Ty, NodeId),
-    /// A condition that always holds, or never does.
+    /// A constant condition.
     Truth(bool),
     /// The value of a Boolean variable.
     Flag(u32),
@@ -85,14 +87,14 @@ pub enum Node {
     Same(NodeId, NodeId),
     Le(NodeId, NodeId),
     Lt(NodeId, NodeId),
-    /// Equal numbers.
+    /// The two numbers are equal.
     EqNum(NodeId, NodeId),
-    /// The second condition where the first holds, else the third.
+    /// The second condition if the first holds, otherwise the third.
     Ite(NodeId, NodeId, NodeId),
 }
 
 impl Node {
-    /// The first part.
+    /// Returns the first child.
     pub fn first(&self) -> Option<NodeId>
         ensures { result ≡ first self.now }
     {
@@ -124,7 +126,7 @@ impl Node {
         }
     }
 
-    /// The second part.
+    /// Returns the second child.
     pub fn second(&self) -> Option<NodeId>
         ensures { result ≡ second self.now }
     {
@@ -149,7 +151,7 @@ impl Node {
         }
     }
 
-    /// The third part.
+    /// Returns the third child.
     pub fn third(&self) -> Option<NodeId>
         ensures { result ≡ third self.now }
     {
@@ -159,7 +161,7 @@ impl Node {
         }
     }
 
-    /// The node over other parts; what it has none of isn't looked at.
+    /// Returns the node with the given children, as many as it has; the others are ignored.
     pub fn with_parts(&self, a: NodeId, b: NodeId, c: NodeId) -> Node
         ensures { result ≡ with_parts self.now a b c }
     {
@@ -191,7 +193,7 @@ impl Node {
         }
     }
 
-    /// The variable that the node is, a numeric one or a Boolean one.
+    /// Returns the variable of a node that is a variable, numeric or Boolean.
     pub fn variable_of(&self) -> Option<u32>
         ensures { result ≡ variable_of self.now }
     {
@@ -201,7 +203,7 @@ impl Node {
         }
     }
 
-    /// The number that the node binds.
+    /// Returns the variable that the node binds.
     pub fn bound_by(&self) -> Option<u32>
         ensures { result ≡ bound_by self.now }
     {
@@ -211,7 +213,6 @@ impl Node {
         }
     }
 
-    /// The number that the node binds, and its body.
     pub(crate) fn binder_of(&self) -> Option<(u32, NodeId)>
         ensures { result ≡ binder_of self.now }
     {
@@ -221,7 +222,6 @@ impl Node {
         }
     }
 
-    /// Whether the node is a Boolean variable.
     pub(crate) fn is_flag(&self) -> bool
         ensures { result ≡ is_flag self.now }
     {
@@ -231,7 +231,7 @@ impl Node {
         }
     }
 
-    /// The node of another variable, where it is one.
+    /// Returns the node with the variable `x`, if it is a variable.
     pub(crate) fn with_variable(&self, x: u32) -> Node
         ensures { result ≡ with_variable self.now x }
     {
@@ -242,7 +242,7 @@ impl Node {
         }
     }
 
-    /// The binder of another number over another body, where it is one.
+    /// Returns the node with the bound variable `x` and the body `body`, if it is a binder.
     pub(crate) fn with_binder(&self, x: u32, body: NodeId) -> Node
         ensures { result ≡ with_binder self.now x body }
     {

@@ -9,7 +9,7 @@ use Rattle.heylo_graph.proofs.SameTrees.{has_first, has_second, has_third}
 use Rattle.heylo_graph.proofs.Trees.{stands_longer}
 use Rattle.heylo_graph.proofs.graphs.Graph.+putting.Goals as goal
 
--- The tree of a part that is reached by its box.
+-- The tree of a child that is reached through its box.
 form_there : (x y : F.Form) → x ≡ y → Some (Tree.formula (form_of y)) ≡ Some (Tree.formula (form_of x))
 form_there x y e = ap (λ z. Some (Tree.formula (form_of z))) (sym e)
 
