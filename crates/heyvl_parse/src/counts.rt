@@ -1,4 +1,4 @@
-//! The counts of the load: one for each open bracket, and one for the text outside of them.
+//! The counts of the load: one for each open bracket, and one for the text outside of all brackets.
 
 ghost use Rattle.heyvl_parse.specs.internal.HeldCounts.{IsCounted, counts_of, effect_of};
 ghost use Rattle.heyvl_syntax.specs.Load.{changed, load};
@@ -8,7 +8,8 @@ use crate::effects::Effect;
 use std::alloc::{AllocError, Global};
 use std::collections::VecDeque;
 
-/// The count of the innermost bracket, those of the brackets around it from the inside to the outside, and the load.
+/// The count of the innermost bracket, the counts of the brackets around it from the inside to the
+/// outside, and the load.
 #[derive(Drop)]
 pub(crate) struct Counts {
     pub innermost: usize,
@@ -17,7 +18,7 @@ pub(crate) struct Counts {
 }
 
 impl Counts {
-    /// The counts before the first token.
+    /// Returns the counts before the first token.
     pub fn new(alloc: Global) -> Counts
         ensures counts { counts_of result ≡ 0 ∷ [] }
         ensures counted { IsCounted result }
@@ -43,7 +44,8 @@ impl Counts {
 
     fn close(&mut self)
         requires { IsCounted self.old }
-        ensures counts { counts_of self.new ≡ changed (counts_of self.old) (effect_of Effect.Closes) }
+        ensures counts { counts_of self.new
+            ≡ changed (counts_of self.old) (effect_of Effect.Closes) }
         ensures counted { IsCounted self.new }
     {
         if let Some(count) = self.outer.pop_front() {
@@ -54,18 +56,20 @@ impl Counts {
 
     fn reset(&mut self)
         requires { IsCounted self.old }
-        ensures counts { counts_of self.new ≡ changed (counts_of self.old) (effect_of Effect.Resets) }
+        ensures counts { counts_of self.new
+            ≡ changed (counts_of self.old) (effect_of Effect.Resets) }
         ensures counted { IsCounted self.new }
     {
         self.load -= self.innermost;
         self.innermost = 0;
     }
 
-    /// Takes in a token with this effect.
+    /// Applies the effect of a token.
     pub fn change(&mut self, effect: Effect) -> Result<(), AllocError>
         requires counted { IsCounted self.old }
         requires light { self.old.load ≤ 200 }
-        ensures counts { OnOk result (counts_of self.new ≡ changed (counts_of self.old) (effect_of effect)) }
+        ensures counts { OnOk result
+            (counts_of self.new ≡ changed (counts_of self.old) (effect_of effect)) }
         ensures counted { OnOk result (IsCounted self.new) }
     {
         match effect {

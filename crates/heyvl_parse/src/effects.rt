@@ -1,4 +1,4 @@
-//! What a token does to the counts of the load.
+//! The effects of tokens on the counts of the load.
 
 ghost use Rattle.heyvl_parse.specs.internal.HeldCounts.{effect_of};
 ghost use Rattle.heyvl_syntax.specs.Load.{effect, key_effect, mark_effect};
@@ -6,18 +6,18 @@ ghost use Rattle.std.specs.Prelude.{◌≡◌};
 
 use heyvl_syntax::{Key, Mark, TokenKind};
 
-/// What a token does to the counts.
+/// The effect of a token on the counts.
 #[derive(Clone, Copy)]
 pub(crate) enum Effect {
-    /// It opens a bracket, whose count begins at 0.
+    /// Opens a bracket, whose count begins at 0.
     Opens,
-    /// It closes the innermost bracket, if one is open.
+    /// Closes the innermost bracket, if one is open.
     Closes,
-    /// It adds 1 to the innermost count.
+    /// Adds 1 to the innermost count.
     Adds,
-    /// It sets the innermost count to 0.
+    /// Sets the innermost count to 0.
     Resets,
-    /// It changes nothing.
+    /// Changes nothing.
     Keeps,
 }
 
@@ -52,7 +52,7 @@ fn key_effect(key: Key) -> Effect
     }
 }
 
-/// What a token of this kind does to the counts.
+/// Returns the effect of a token of this kind.
 pub(crate) fn token_effect(kind: &TokenKind) -> Effect
     ensures { effect_of result ≡ effect kind.now }
 {

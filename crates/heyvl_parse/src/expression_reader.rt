@@ -12,9 +12,10 @@ use crate::stops::PartStop;
 use heyvl_syntax::{Expr, Token};
 use std::alloc::Global;
 
-/// The expression at the front, behind which nothing may stand.
+/// Reads an expression, after which no token may be left.
 fn alone(alloc: Global, tokens: &[Token]) -> Result<Expr, PartStop>
-    ensures value { (n : ℕ) → length tokens.now < n → Gives expression (λ x. []) result (only_expr n tokens.now) }
+    ensures value { (n : ℕ) → length tokens.now < n
+        → Gives expression (λ x. []) result (only_expr n tokens.now) }
 {
     let (found, rest) = whole(alloc, tokens)?;
     match rest.split_first() {
@@ -23,7 +24,7 @@ fn alone(alloc: Global, tokens: &[Token]) -> Result<Expr, PartStop>
     }
 }
 
-/// The expression that the tokens spell, or the least index at which no expression goes on.
+/// Returns the expression that the tokens spell, or the least index at which no expression goes on.
 pub(crate) fn spelled_expression(alloc: Global, tokens: &[Token]) -> Result<Expr, PartStop>
     ensures found { IfOk result (λ expr. IsFull (expression expr) tokens.now) }
     ensures fault { IfErr result (λ stop. IsPartStop IsFull tokens.now stop) }

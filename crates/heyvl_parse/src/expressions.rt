@@ -1,6 +1,8 @@
 //! The parser of expressions.
 
-ghost use Rattle.heyvl_parse.specs.readers.ReadParts.{Full, Whole, bound, choice, climbed, enclosed, end_of, operand, prefixed, reach, reading, started};
+ghost use Rattle.heyvl_parse.specs.readers.ReadParts.{Full, Whole, bound, choice, climbed};
+ghost use Rattle.heyvl_parse.specs.readers.ReadParts.{enclosed, end_of, operand, prefixed, reach};
+ghost use Rattle.heyvl_parse.specs.readers.ReadParts.{reading, started};
 ghost use Rattle.heyvl_parse.specs.readers.Results.{Gives};
 ghost use Rattle.heyvl_syntax.specs.declared.tokens.Token.{Token};
 ghost use Rattle.heyvl_syntax.specs.Expressions.{Expression, expression};
@@ -17,10 +19,10 @@ use heyvl_places::Span;
 use heyvl_syntax::{BinaryOp, Expr, Mark, Token, TokenKind, UnaryOp};
 use std::alloc::{AllocError, Global};
 
-/// The rank of e1, above which only quantifiers stand.
+/// The rank of `e1`. Only quantifiers bind looser.
 const LOOSEST: u8 = 8;
 
-/// From the first byte of a place to an end.
+/// Returns the place from the first byte of `start` to `end`.
 fn reach(start: Span, end: u32) -> Span
     ensures { result ≡ reach start end }
 {
@@ -30,7 +32,7 @@ fn reach(start: Span, end: u32) -> Span
     }
 }
 
-/// The end of the last token of an expression.
+/// Returns the end of the last token of `expr`.
 fn end_of(expr: &Expr) -> u32
     ensures { result ≡ end_of (expression expr.now) }
 {
@@ -49,10 +51,11 @@ fn end_of(expr: &Expr) -> u32
     }
 }
 
-/// The expression at the front, and the tokens behind it.
+/// Reads an expression.
 #[inline(never)]
 pub fn whole(alloc: Global, tokens: &[Token]) -> Result<(Expr, &[Token]), PartStop>
-    ensures value { (n : ℕ) → length tokens.now < n → Gives (λ x. expression x.0) (λ x. x.1.now) result (reading n Whole tokens.now) }
+    ensures value { (n : ℕ) → length tokens.now < n
+        → Gives (λ x. expression x.0) (λ x. x.1.now) result (reading n Whole tokens.now) }
     ensures shorter { IfOk result (λ x. length x.1.now < length tokens.now) }
 {
     if is_alone(tokens) {
@@ -62,11 +65,12 @@ pub fn whole(alloc: Global, tokens: &[Token]) -> Result<(Expr, &[Token]), PartSt
     Ok((Box::into_inner(found), rest))
 }
 
-/// The expression at the front in a box, which keeps small what the readers that call each other have on the stack.
+/// Reads an expression into a box, which keeps the stack of the recursive readers small.
 #[cycle(expressions)]
 #[inline(always)]
 fn boxed(alloc: Global, tokens: &[Token]) -> Result<(Box<Expr>, &[Token]), PartStop>
-    ensures value { (n : ℕ) → length tokens.now < n → Gives (λ x. expression x.0.value) (λ x. x.1.now) result (reading n Whole tokens.now) }
+    ensures value { (n : ℕ) → length tokens.now < n
+        → Gives (λ x. expression x.0.value) (λ x. x.1.now) result (reading n Whole tokens.now) }
     ensures shorter { IfOk result (λ x. length x.1.now < length tokens.now) }
 {
     match quantifier_at(tokens) {
@@ -75,7 +79,7 @@ fn boxed(alloc: Global, tokens: &[Token]) -> Result<(Box<Expr>, &[Token]), PartS
     }
 }
 
-/// What stands behind a quantifier.
+/// Reads what follows the quantifier at `place`.
 #[cycle(expressions)]
 #[inline(never)]
 fn bound(
@@ -84,7 +88,9 @@ fn bound(
     place: Span,
     tokens: &[Token],
 ) -> Result<(Box<Expr>, &[Token]), PartStop>
-    ensures value { (n : ℕ) → length tokens.now < n → Gives (λ x. expression x.0.value) (λ x. x.1.now) result (bound (reading n) up place tokens.now) }
+    ensures value { (n : ℕ) → length tokens.now < n
+        → Gives (λ x. expression x.0.value) (λ x. x.1.now) result
+        (bound (reading n) up place tokens.now) }
     ensures shorter { IfOk result (λ x. length x.1.now < length tokens.now) }
 {
     let (typed, rest) = typed_name(alloc, tokens)?;
@@ -95,11 +101,13 @@ fn bound(
     Ok((found.boxed(alloc)?, rest))
 }
 
-/// An expression of at most this rank without quantifiers in front.
+/// Reads an expression of rank at most `rank` that no quantifier begins.
 #[cycle(expressions)]
 #[inline(never)]
 fn full(alloc: Global, rank: u8, tokens: &[Token]) -> Result<(Box<Expr>, &[Token]), PartStop>
-    ensures value { (n : ℕ) → length tokens.now < n → Gives (λ x. expression x.0.value) (λ x. x.1.now) result (reading n (Full rank) tokens.now) }
+    ensures value { (n : ℕ) → length tokens.now < n
+        → Gives (λ x. expression x.0.value) (λ x. x.1.now) result
+        (reading n (Full rank) tokens.now) }
     ensures shorter { IfOk result (λ x. length x.1.now < length tokens.now) }
 {
     let (first, rest) = operand(alloc, tokens)?;
@@ -107,7 +115,8 @@ fn full(alloc: Global, rank: u8, tokens: &[Token]) -> Result<(Box<Expr>, &[Token
     climbed(alloc, rank, first, rest)
 }
 
-/// The expression of at most this rank that begins with this operand: rank by rank, from those that bind tightest.
+/// Reads the rest of an expression of rank at most `rank` that begins with the operand `first`,
+/// rank by rank from the tightest.
 #[cycle(expressions)]
 #[inline(never)]
 fn climbed(
@@ -116,7 +125,9 @@ fn climbed(
     first: Box<Expr>,
     tokens: &[Token],
 ) -> Result<(Box<Expr>, &[Token]), PartStop>
-    ensures value { (n m : ℕ) → length tokens.now < n → length tokens.now < m → Gives (λ x. expression x.0.value) (λ x. x.1.now) result (climbed (reading n) (reading m) rank 1 (expression first.value) tokens.now) }
+    ensures value { (n m : ℕ) → length tokens.now < n → length tokens.now < m
+        → Gives (λ x. expression x.0.value) (λ x. x.1.now) result
+        (climbed (reading n) (reading m) rank 1 (expression first.value) tokens.now) }
     ensures shorter { IfOk result (λ x. length x.1.now ≤ length tokens.now) }
 {
     let mut left = first;
@@ -131,7 +142,7 @@ fn climbed(
     Ok((left, rest))
 }
 
-/// The operator between its operands.
+/// Builds the tree of an operator between its operands.
 #[inline(never)]
 fn joined(
     alloc: Global,
@@ -140,16 +151,18 @@ fn joined(
     right: Box<Expr>,
     place: Span,
 ) -> Result<Box<Expr>, AllocError>
-    ensures { IfOk result (λ both. expression both.value ≡ Expression.binary op (expression left.value) (expression right.value) place) }
+    ensures { IfOk result (λ both. expression both.value
+        ≡ Expression.binary op (expression left.value) (expression right.value) place) }
 {
     Expr::Binary(op, left, right, place).boxed(alloc)
 }
 
-/// An operand of a prefix operator, or an atom.
+/// Reads an operand: an atom, or a prefix operator and its operand.
 #[cycle(expressions)]
 #[inline(always)]
 fn operand(alloc: Global, tokens: &[Token]) -> Result<(Expr, &[Token]), PartStop>
-    ensures value { (n : ℕ) → length tokens.now < n → Gives (λ x. expression x.0) (λ x. x.1.now) result (reading n (Full 0) tokens.now) }
+    ensures value { (n : ℕ) → length tokens.now < n
+        → Gives (λ x. expression x.0) (λ x. x.1.now) result (reading n (Full 0) tokens.now) }
     ensures shorter { IfOk result (λ x. length x.1.now < length tokens.now) }
 {
     let (token, rest) = next(tokens)?;
@@ -161,7 +174,7 @@ fn operand(alloc: Global, tokens: &[Token]) -> Result<(Expr, &[Token]), PartStop
     }
 }
 
-/// What stands behind the key or mark at this place.
+/// Reads what follows the keyword or symbol at `place`.
 #[cycle(expressions)]
 #[inline(always)]
 fn started(
@@ -170,7 +183,10 @@ fn started(
     place: Span,
     tokens: &[Token],
 ) -> Result<(Expr, &[Token]), PartStop>
-    ensures value { (n : ℕ) → length tokens.now < n → (all : List Token) → length all ≡ length tokens.now + 1 → Gives (λ x. expression x.0) (λ x. x.1.now) result (started (reading n) start place tokens.now all) }
+    ensures value { (n : ℕ) → length tokens.now < n → (all : List Token)
+        → length all ≡ length tokens.now + 1
+        → Gives (λ x. expression x.0) (λ x. x.1.now) result
+        (started (reading n) start place tokens.now all) }
     ensures shorter { IfOk result (λ x. length x.1.now ≤ length tokens.now) }
 {
     match start {
@@ -195,7 +211,7 @@ fn started(
     }
 }
 
-/// An expression, the place of the mark that closes it, and the tokens behind that.
+/// Reads an expression and the symbol `close`, and returns the place of `close` too.
 #[cycle(expressions)]
 #[inline(always)]
 fn enclosed(
@@ -203,7 +219,9 @@ fn enclosed(
     close: Mark,
     tokens: &[Token],
 ) -> Result<(Box<Expr>, Span, &[Token]), PartStop>
-    ensures value { (n : ℕ) → length tokens.now < n → Gives (λ x. (expression x.0.value, x.1)) (λ x. x.2.now) result (enclosed (reading n) close tokens.now) }
+    ensures value { (n : ℕ) → length tokens.now < n
+        → Gives (λ x. (expression x.0.value, x.1)) (λ x. x.2.now) result
+        (enclosed (reading n) close tokens.now) }
     ensures shorter { IfOk result (λ x. length x.2.now < length tokens.now) }
 {
     let (inner, rest) = boxed(alloc, tokens)?;
@@ -211,7 +229,7 @@ fn enclosed(
     Ok((inner, place, rest))
 }
 
-/// The operand of the prefix operator at this place.
+/// Reads the operand of the prefix operator at `place`.
 #[cycle(expressions)]
 #[inline(never)]
 fn prefixed(
@@ -220,7 +238,9 @@ fn prefixed(
     place: Span,
     tokens: &[Token],
 ) -> Result<(Expr, &[Token]), PartStop>
-    ensures value { (n : ℕ) → length tokens.now < n → Gives (λ x. expression x.0) (λ x. x.1.now) result (prefixed (reading n) op place tokens.now) }
+    ensures value { (n : ℕ) → length tokens.now < n
+        → Gives (λ x. expression x.0) (λ x. x.1.now) result
+        (prefixed (reading n) op place tokens.now) }
     ensures shorter { IfOk result (λ x. length x.1.now < length tokens.now) }
 {
     let (inner, rest) = operand(alloc, tokens)?;
@@ -228,11 +248,12 @@ fn prefixed(
     Ok((Expr::Unary(op, inner.boxed(alloc)?, place), rest))
 }
 
-/// The parts of the `ite` at this place.
+/// Reads the parts of the `ite` at `place`.
 #[cycle(expressions)]
 #[inline(never)]
 fn choice(alloc: Global, place: Span, tokens: &[Token]) -> Result<(Expr, &[Token]), PartStop>
-    ensures value { (n : ℕ) → length tokens.now < n → Gives (λ x. expression x.0) (λ x. x.1.now) result (choice (reading n) place tokens.now) }
+    ensures value { (n : ℕ) → length tokens.now < n
+        → Gives (λ x. expression x.0) (λ x. x.1.now) result (choice (reading n) place tokens.now) }
     ensures shorter { IfOk result (λ x. length x.1.now < length tokens.now) }
 {
     let (_, rest) = expect(Mark::ParenLeft, tokens)?;

@@ -1,4 +1,4 @@
-//! The parser of files up to the point where nothing goes on.
+//! The parser of files, up to the first token at which no file goes on.
 
 ghost use Rattle.heyvl_parse.specs.internal.Statements.{braced, stmts};
 ghost use Rattle.heyvl_parse.specs.readers.Combinators.{starts};
@@ -15,7 +15,7 @@ use crate::tokens::starts_mark;
 use heyvl_syntax::{File, Mark, Proc, Token};
 use std::alloc::Global;
 
-/// Whether a procedure begins at the front.
+/// Returns true if a procedure begins with the first token.
 fn starts_procedure(tokens: &[Token]) -> bool
     ensures { result ≡ starts begins tokens.now }
 {
@@ -25,9 +25,11 @@ fn starts_procedure(tokens: &[Token]) -> bool
     }
 }
 
-/// The procedures at the front, as far as they go.
+/// Reads procedures as long as one begins.
 fn procs(alloc: Global, tokens: &[Token]) -> Result<(Vec<Proc>, &[Token]), PartStop>
-    ensures value { (n : ℕ) → length tokens.now < n → Gives (λ x. map procedure x.0.items) (λ x. x.1.now) result (procs (braced (stmts n)) n tokens.now) }
+    ensures value { (n : ℕ) → length tokens.now < n
+        → Gives (λ x. map procedure x.0.items) (λ x. x.1.now) result
+        (procs (braced (stmts n)) n tokens.now) }
     ensures shorter { IfOk result (λ x. length x.1.now ≤ length tokens.now) }
 {
     let mut found = Vec::new(alloc);
@@ -40,9 +42,10 @@ fn procs(alloc: Global, tokens: &[Token]) -> Result<(Vec<Proc>, &[Token]), PartS
     Ok((found, rest))
 }
 
-/// The procedures at the front, behind which nothing may stand.
+/// Reads procedures, after which no token may be left.
 fn file(alloc: Global, tokens: &[Token]) -> Result<File, PartStop>
-    ensures value { (n : ℕ) → length tokens.now < n → Gives (λ x. procedures x) (λ x. []) result (file (braced (stmts n)) n tokens.now) }
+    ensures value { (n : ℕ) → length tokens.now < n
+        → Gives (λ x. procedures x) (λ x. []) result (file (braced (stmts n)) n tokens.now) }
 {
     let (procs, rest) = procs(alloc, tokens)?;
     match rest.split_first() {
@@ -51,7 +54,7 @@ fn file(alloc: Global, tokens: &[Token]) -> Result<File, PartStop>
     }
 }
 
-/// The file that the tokens spell, or the least index at which no file goes on.
+/// Returns the file that the tokens spell, or the least index at which no file goes on.
 pub(crate) fn spelled(alloc: Global, tokens: &[Token]) -> Result<File, PartStop>
     ensures found { IfOk result (λ file. IsFile (procedures file) tokens.now) }
     ensures fault { IfErr result (λ stop. IsPartStop IsFile tokens.now stop) }

@@ -1,4 +1,4 @@
-//! Laws of the reading of expressions and files.
+//! Uniqueness of what tokens spell.
 
 ghost use Rattle.heyvl_parse.specs.Laws.{ExpressionIsUnique, FileIsUnique};
 

@@ -12,7 +12,7 @@ use crate::tokens::{is_mark, next};
 use heyvl_syntax::{Expr, Mark, Token, TokenKind};
 use std::alloc::Global;
 
-/// Whether a token of this kind is a name or a number.
+/// Returns true for an identifier or a number.
 fn is_leaf(kind: &TokenKind) -> bool
     ensures { result ≡ is_leaf kind.now }
 {
@@ -24,14 +24,14 @@ fn is_leaf(kind: &TokenKind) -> bool
     }
 }
 
-/// Whether a token of this kind goes on behind a name or a number: an operator, or the `(` of a call.
+/// Returns true for a token that continues an expression after an identifier or a number: an
+/// operator, or the `(` of a call.
 fn goes_on(kind: &TokenKind) -> bool
     ensures { result ≡ goes_on kind.now }
 {
     is_mark(Mark::ParenLeft, kind) || operator_of(kind).is_some()
 }
 
-/// Whether something that goes on behind a name or a number stands at the front.
 fn starts_further(tokens: &[Token]) -> bool
     ensures { result ≡ starts goes_on tokens.now }
 {
@@ -41,7 +41,8 @@ fn starts_further(tokens: &[Token]) -> bool
     }
 }
 
-/// Whether a name or a number stands at the front, and nothing behind it that goes on.
+/// Returns true if the first token is an identifier or a number that the next token does not
+/// continue.
 pub(crate) fn is_alone(tokens: &[Token]) -> bool
     ensures { result ≡ is_alone tokens.now }
 {
@@ -51,7 +52,7 @@ pub(crate) fn is_alone(tokens: &[Token]) -> bool
     }
 }
 
-/// The name or the number at the front, and the tokens behind it.
+/// Reads an identifier or a number.
 #[inline(always)]
 pub(crate) fn leaf(alloc: Global, tokens: &[Token]) -> Result<(Expr, &[Token]), PartStop>
     ensures value { Gives (λ x. expression x.0) (λ x. x.1.now) result (leaf tokens.now) }

@@ -1,6 +1,9 @@
-//! The parser of HeyVL: the tools that take tokens, the limits of a file, and the reading of expressions, statements, procedures
-//! and files. Readers of other languages over the same tokens take expressions and single tokens by its tools, and their proofs go by
-//! specs/readers and proofs/exported.
+//! The parser of HeyVL: readers of single tokens, expressions, statements, procedures and files,
+//! and the limits of a file. A reader takes tokens, and returns what it has read at their beginning
+//! and the tokens after it, or a `PartStop`. `AllocError` means that memory ran out.
+//!
+//! Parsers of other languages over the same tokens can use the readers of expressions and of single
+//! tokens; their proofs use `specs/readers` and `proofs/exported`.
 #![tactic(auto)]
 
 mod counts;

@@ -1,6 +1,7 @@
-//! The limits of a file that its tokens show: how deep it is nested, and how many procedures it has.
+//! The limits of a file that its tokens show: its nesting depth, and its number of procedures.
 
-ghost use Rattle.heyvl_syntax.specs.SourceFaults.{IsCrowd, IsLight, IsOverload, IsUncrowded, is_procedure_key};
+ghost use Rattle.heyvl_syntax.specs.SourceFaults.{IsCrowd, IsLight, IsOverload, IsUncrowded};
+ghost use Rattle.heyvl_syntax.specs.SourceFaults.{is_procedure_key};
 ghost use Rattle.std.specs.Prelude.{IfOk, MatchOption, ◌≡◌};
 
 use crate::counts::Counts;
@@ -8,15 +9,16 @@ use crate::effects::token_effect;
 use heyvl_syntax::{Key, Token, TokenKind};
 use std::alloc::{AllocError, Global};
 
-/// The most that the load may be after a token.
+/// The largest load that is allowed after a token.
 const LOAD_LIMIT: usize = 200;
 
-/// The most procedures that a file may have.
+/// The largest number of procedures of a file.
 const PROCEDURE_LIMIT: usize = 1024;
 
-/// The index of the first token after which the load is above 200, if there is one.
+/// Returns the index of the first token after which the load is above 200, if there is one.
 pub fn overload_at(alloc: Global, tokens: &[Token]) -> Result<Option<usize>, AllocError>
-    ensures { IfOk result (λ place. MatchOption place (IsLight tokens.now) (λ i. IsOverload tokens.now i)) }
+    ensures { IfOk result (λ place.
+        MatchOption place (IsLight tokens.now) (λ i. IsOverload tokens.now i)) }
 {
     let mut counts = Counts::new(alloc);
     'tokens: for (index, token) in tokens.iter().enumerate() {
@@ -28,7 +30,7 @@ pub fn overload_at(alloc: Global, tokens: &[Token]) -> Result<Option<usize>, All
     Ok(None)
 }
 
-/// Whether a token of this kind begins a procedure.
+/// Returns true for `proc` and `coproc`.
 fn is_procedure_key(kind: &TokenKind) -> bool
     ensures { result ≡ is_procedure_key kind.now }
 {
@@ -43,7 +45,7 @@ fn is_procedure_key(kind: &TokenKind) -> bool
     }
 }
 
-/// The index of the 1,025th `proc` or `coproc`, if there is one.
+/// Returns the index of the 1,025th `proc` or `coproc`, if there is one.
 pub fn crowd_at(tokens: &[Token]) -> Option<usize>
     ensures { MatchOption result (IsUncrowded tokens.now) (λ i. IsCrowd tokens.now i) }
 {

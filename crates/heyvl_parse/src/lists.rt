@@ -16,7 +16,8 @@ use heyvl_places::Name;
 use heyvl_syntax::{Expr, Mark, Token};
 use std::alloc::{AllocError, Global};
 
-/// Puts the item behind the others. In a function of its own, so that a reader that calls itself has no room for it on the stack.
+/// Appends `item` to `items`. It is a separate function, so that recursive readers have no room for
+/// the item on their stack.
 #[inline(never)]
 pub(crate) fn put<T: Drop>(items: &mut Vec<T>, item: T) -> Result<(), AllocError>
     ensures { OnOk result (items.new.items ≡ items.old.items ++ (item ∷ [])) }
@@ -24,7 +25,7 @@ pub(crate) fn put<T: Drop>(items: &mut Vec<T>, item: T) -> Result<(), AllocError
     Ok(items.push(item)?)
 }
 
-/// A list of this item alone.
+/// Returns a list of `item` alone.
 pub(crate) fn single<T: Drop>(alloc: Global, item: T) -> Result<Vec<T>, AllocError>
     ensures { IfOk result (λ items. items.items ≡ item ∷ []) }
 {
@@ -33,18 +34,21 @@ pub(crate) fn single<T: Drop>(alloc: Global, item: T) -> Result<Vec<T>, AllocErr
     Ok(items)
 }
 
-/// A `,` and an expression.
+/// Reads a `,` and an expression.
 fn further(alloc: Global, tokens: &[Token]) -> Result<(Expr, &[Token]), PartStop>
-    ensures value { (n : ℕ) → length tokens.now < n → Gives (λ x. expression x.0) (λ x. x.1.now) result (lead (is_mark marks.Comma) (expr n) tokens.now) }
+    ensures value { (n : ℕ) → length tokens.now < n
+        → Gives (λ x. expression x.0) (λ x. x.1.now) result
+        (lead (is_mark marks.Comma) (expr n) tokens.now) }
     ensures shorter { IfOk result (λ x. length x.1.now < length tokens.now) }
 {
     let (_, rest) = expect(Mark::Comma, tokens)?;
     whole(alloc, rest)
 }
 
-/// Expressions with `,` between.
+/// Reads one or more expressions with `,` between them.
 fn expressions(alloc: Global, tokens: &[Token]) -> Result<(Vec<Expr>, &[Token]), PartStop>
-    ensures value { (n : ℕ) → length tokens.now < n → Gives (λ x. expressions x.0.items) (λ x. x.1.now) result (list (expr n) n tokens.now) }
+    ensures value { (n : ℕ) → length tokens.now < n
+        → Gives (λ x. expressions x.0.items) (λ x. x.1.now) result (list (expr n) n tokens.now) }
     ensures shorter { IfOk result (λ x. length x.1.now < length tokens.now) }
 {
     let (first, mut rest) = whole(alloc, tokens)?;
@@ -58,9 +62,10 @@ fn expressions(alloc: Global, tokens: &[Token]) -> Result<(Vec<Expr>, &[Token]),
     Ok((found, rest))
 }
 
-/// Expressions with `,` between, or none before `)`.
+/// Reads expressions with `,` between them, or none before `)`.
 fn expressions_inside(alloc: Global, tokens: &[Token]) -> Result<(Vec<Expr>, &[Token]), PartStop>
-    ensures value { (n : ℕ) → length tokens.now < n → Gives (λ x. expressions x.0.items) (λ x. x.1.now) result (list0 (expr n) n tokens.now) }
+    ensures value { (n : ℕ) → length tokens.now < n
+        → Gives (λ x. expressions x.0.items) (λ x. x.1.now) result (list0 (expr n) n tokens.now) }
     ensures shorter { IfOk result (λ x. length x.1.now ≤ length tokens.now) }
 {
     if starts_mark(Mark::ParenRight, tokens) {
@@ -69,9 +74,10 @@ fn expressions_inside(alloc: Global, tokens: &[Token]) -> Result<(Vec<Expr>, &[T
     expressions(alloc, tokens)
 }
 
-/// What stands in the parentheses of a call.
+/// Reads the arguments of a call with their parentheses.
 pub(crate) fn arguments(alloc: Global, tokens: &[Token]) -> Result<(Vec<Expr>, &[Token]), PartStop>
-    ensures value { (n : ℕ) → length tokens.now < n → Gives (λ x. expressions x.0.items) (λ x. x.1.now) result (arguments n tokens.now) }
+    ensures value { (n : ℕ) → length tokens.now < n
+        → Gives (λ x. expressions x.0.items) (λ x. x.1.now) result (arguments n tokens.now) }
     ensures shorter { IfOk result (λ x. length x.1.now < length tokens.now) }
 {
     let (_, rest) = expect(Mark::ParenLeft, tokens)?;
@@ -79,18 +85,20 @@ pub(crate) fn arguments(alloc: Global, tokens: &[Token]) -> Result<(Vec<Expr>, &
     closed(found, Mark::ParenRight, rest)
 }
 
-/// A `,` and a name.
+/// Reads a `,` and a name.
 fn further_name(alloc: Global, tokens: &[Token]) -> Result<(Name, &[Token]), PartStop>
-    ensures value { Gives (λ x. x.0) (λ x. x.1.now) result (lead (is_mark marks.Comma) word tokens.now) }
+    ensures value { Gives (λ x. x.0) (λ x. x.1.now) result
+        (lead (is_mark marks.Comma) word tokens.now) }
     ensures shorter { IfOk result (λ x. length x.1.now < length tokens.now) }
 {
     let (_, rest) = expect(Mark::Comma, tokens)?;
     word(alloc, rest)
 }
 
-/// Names with `,` between.
+/// Reads one or more names with `,` between them.
 pub(crate) fn names(alloc: Global, tokens: &[Token]) -> Result<(Vec<Name>, &[Token]), PartStop>
-    ensures value { (n : ℕ) → length tokens.now < n → Gives (λ x. x.0.items) (λ x. x.1.now) result (list word n tokens.now) }
+    ensures value { (n : ℕ) → length tokens.now < n
+        → Gives (λ x. x.0.items) (λ x. x.1.now) result (list word n tokens.now) }
     ensures shorter { IfOk result (λ x. length x.1.now < length tokens.now) }
 {
     let (first, mut rest) = word(alloc, tokens)?;

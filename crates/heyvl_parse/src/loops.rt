@@ -13,7 +13,7 @@ use heyvl_places::Name;
 use heyvl_syntax::{Mark, Rule, Token, TokenKind};
 use std::alloc::Global;
 
-/// Which rule's word stands behind `@`.
+/// The rule that the identifier after `@` names.
 #[derive(Clone, Copy)]
 pub(crate) enum RuleStart {
     /// `invariant`
@@ -22,7 +22,7 @@ pub(crate) enum RuleStart {
     KInduction,
     /// `ranking`
     Ranking,
-    /// No rule's word.
+    /// Any other token.
     Other,
 }
 
@@ -61,10 +61,11 @@ fn rule_start(tokens: &[Token]) -> RuleStart
     }
 }
 
-/// The rule at the front.
+/// Reads a rule.
 #[inline(never)]
 fn rule(alloc: Global, tokens: &[Token]) -> Result<(Rule, &[Token]), PartStop>
-    ensures value { (n : ℕ) → length tokens.now < n → Gives (λ x. loop_rule x.0) (λ x. x.1.now) result (rule n tokens.now) }
+    ensures value { (n : ℕ) → length tokens.now < n
+        → Gives (λ x. loop_rule x.0) (λ x. x.1.now) result (rule n tokens.now) }
     ensures shorter { IfOk result (λ x. length x.1.now < length tokens.now) }
 {
     let (_, start) = expect(Mark::AtSign, tokens)?;
@@ -94,10 +95,11 @@ fn rule(alloc: Global, tokens: &[Token]) -> Result<(Rule, &[Token]), PartStop>
     }
 }
 
-/// The rules at the front.
+/// Reads rules as long as one begins.
 #[inline(never)]
 pub(crate) fn rules(alloc: Global, tokens: &[Token]) -> Result<(Vec<Rule>, &[Token]), PartStop>
-    ensures value { (n : ℕ) → length tokens.now < n → Gives (λ x. loop_rules x.0.items) (λ x. x.1.now) result (rules n tokens.now) }
+    ensures value { (n : ℕ) → length tokens.now < n
+        → Gives (λ x. loop_rules x.0.items) (λ x. x.1.now) result (rules n tokens.now) }
     ensures shorter { IfOk result (λ x. length x.1.now ≤ length tokens.now) }
 {
     let mut found = Vec::new(alloc);

@@ -1,4 +1,4 @@
-//! The operators between operands, and the table of their ranks.
+//! The binary operators and the table of their ranks.
 
 ghost use Rattle.heyvl_parse.specs.readers.ReadParts.{next_level, operator_of, operator_within};
 ghost use Rattle.heyvl_syntax.specs.Grammar.{ranks};
@@ -7,7 +7,8 @@ ghost use Rattle.std.specs.Prelude.{IfSome, MatchOption, None, Some, length, ◌
 use heyvl_places::Span;
 use heyvl_syntax::{BinaryOp, Key, Mark, Token, TokenKind};
 
-/// The rank of an operator, and the highest ranks that its left and its right operand may have. Rank 8 binds loosest.
+/// The rank of an operator, and the highest ranks that its left and its right operand may have.
+/// Rank 8 binds loosest.
 #[derive(Clone, Copy)]
 pub(crate) struct Row {
     pub rank: u8,
@@ -25,7 +26,7 @@ impl Row {
     }
 }
 
-/// The table of the operators.
+/// Returns the row of `op` in the table of the ranks.
 pub(crate) fn ranks(op: BinaryOp) -> Row
     ensures rank { result.rank ≡ (ranks op).rank }
     ensures left { result.left ≡ (ranks op).left }
@@ -47,7 +48,7 @@ pub(crate) fn ranks(op: BinaryOp) -> Row
     }
 }
 
-/// The least rank of an operator that may stand behind the right operand of this one.
+/// Returns the least rank of an operator that may follow the right operand of `op`.
 pub(crate) fn next_level(op: BinaryOp) -> u8
     ensures { result ≡ next_level op }
 {
@@ -59,7 +60,7 @@ pub(crate) fn next_level(op: BinaryOp) -> u8
     }
 }
 
-/// The operator that a token is.
+/// Returns the binary operator that a token is, if it is one.
 pub(crate) fn operator_of(kind: &TokenKind) -> Option<BinaryOp>
     ensures { result ≡ operator_of kind.now }
 {
@@ -91,13 +92,15 @@ pub(crate) fn operator_of(kind: &TokenKind) -> Option<BinaryOp>
     }
 }
 
-/// The operator of a rank from `low` to `high` at the front with its place, and the tokens behind it.
+/// Reads an operator of a rank from `low` to `high`, if the first token is one, and returns its
+/// place too.
 pub(crate) fn operator_within(
     low: u8,
     high: u8,
     tokens: &[Token],
 ) -> Option<(BinaryOp, Span, &[Token])>
-    ensures value { MatchOption result (operator_within low high tokens.now ≡ None) (λ x. operator_within low high tokens.now ≡ Some (x.0, x.1, x.2.now)) }
+    ensures value { MatchOption result (operator_within low high tokens.now ≡ None)
+        (λ x. operator_within low high tokens.now ≡ Some (x.0, x.1, x.2.now)) }
     ensures shorter { IfSome result (λ x. length x.2.now < length tokens.now) }
 {
     let (token, rest) = tokens.split_first()?;

@@ -1,4 +1,4 @@
-//! Reading whole files, and expressions that stand alone.
+//! The parser of whole files, and of expressions that are all of the tokens.
 
 ghost use Rattle.heyvl_parse.specs.Files.{IsParseMemory, IsParseStop, IsThisParseStop};
 ghost use Rattle.heyvl_parse.specs.declared.parser.ParseStop.TheVariants.{Memory};
@@ -8,7 +8,8 @@ ghost use Rattle.heyvl_syntax.specs.Grammar.{IsFile, IsFull};
 ghost use Rattle.heyvl_syntax.specs.Procedures.{Procedure, procedures};
 ghost use Rattle.heyvl_syntax.specs.Sizes.{expression_nodes};
 ghost use Rattle.heyvl_syntax.specs.SourceFaults.{IsLight, IsTokenFault, IsWithinLimits};
-ghost use Rattle.std.specs.Prelude.{IfErr, IfOk, List, MatchOption, MatchResult, length, ◌<◌, ◌^◌, ◌≡◌, ◌≤◌, ℕ};
+ghost use Rattle.std.specs.Prelude.{IfErr, IfOk, List, MatchOption, MatchResult, length, ◌<◌, ◌^◌};
+ghost use Rattle.std.specs.Prelude.{◌≡◌, ◌≤◌, ℕ};
 
 use crate::expression_reader::spelled_expression;
 use crate::file_reader::spelled;
@@ -18,12 +19,13 @@ use heyvl_syntax::{Expr, File, Token};
 use std::alloc::{AllocError, Global};
 use thiserror::Error;
 
-/// Why tokens are not read as a file, or as an expression.
+/// The error of tokens that have to spell a file or an expression.
 #[derive(Debug, Drop, Error)]
 pub enum ParseStop {
-    /// The first fault of the tokens, with its number and the index of the token at which it stands: 5 where the load
-    /// passes 200, 6 at the 1,025th procedure of a file, 4 at the first token with which none goes on, or at the number
-    /// of tokens where they end too early.
+    /// The first error of the tokens: its number and the index of its token. It is 5 at the first
+    /// token after which the load exceeds 200, 6 at the 1,025th procedure of a file, otherwise 4 at
+    /// the first token with which nothing goes on, or at the number of tokens if they end too
+    /// early.
     #[error("fault {0} at the token {1}")]
     Fault(u8, u32),
     /// Memory ran out.
@@ -39,10 +41,11 @@ impl From<AllocError> for ParseStop {
     }
 }
 
-/// The number and the index of the fault at which a limit is passed, if one is.
+/// Returns the number and the index of the first limit that the tokens exceed, if they exceed one.
 fn limit_fault(alloc: Global, tokens: &[Token]) -> Result<Option<(u8, u32)>, AllocError>
     requires { length tokens.now < 2 ^ 31 }
-    ensures { IfOk result (λ fault. MatchOption fault (IsWithinLimits tokens.now) (λ x. IsTokenFault tokens.now x.0 x.1)) }
+    ensures { IfOk result (λ fault.
+        MatchOption fault (IsWithinLimits tokens.now) (λ x. IsTokenFault tokens.now x.0 x.1)) }
 {
     if let Some(index) = overload_at(alloc, tokens)? {
         return Ok(Some((5, index as u32)));
@@ -53,10 +56,11 @@ fn limit_fault(alloc: Global, tokens: &[Token]) -> Result<Option<(u8, u32)>, All
     }
 }
 
-/// The file that the tokens spell, or their first fault.
+/// Returns the file that the tokens spell, or their first error.
 fn file_or_fault(alloc: Global, tokens: &[Token]) -> Result<File, ParseStop>
     requires { length tokens.now < 2 ^ 31 }
-    ensures found { IfOk result (λ file. IsWithinLimits tokens.now × IsFile (procedures file) tokens.now) }
+    ensures found { IfOk result (λ file. IsWithinLimits tokens.now
+        × IsFile (procedures file) tokens.now) }
     ensures fault { IfErr result (λ stop. IsParseStop tokens.now stop) }
 {
     if let Some((number, index)) = limit_fault(alloc, tokens)? {
@@ -69,20 +73,26 @@ fn file_or_fault(alloc: Global, tokens: &[Token]) -> Result<File, ParseStop>
     }
 }
 
-/// The file that the tokens spell, where they are fewer than 2^31. It is refused where the tokens have a fault, with the
-/// first one of them, and for want of memory.
+/// Returns the file that the tokens spell, which have to be fewer than 2^31.
+///
+/// # Errors
+///
+/// `Fault` with the first error of the tokens, or `Memory`.
 pub fn parse(alloc: Global, tokens: &[Token]) -> Result<File, ParseStop>
     requires { length tokens.now < 2 ^ 31 }
-    ensures found { IfOk result (λ file. IsWithinLimits tokens.now × IsFile (procedures file) tokens.now) }
-    ensures only { (file : List Procedure) → IsWithinLimits tokens.now → IsFile file tokens.now → MatchResult result (λ found. procedures found ≡ file) (λ stop. IsParseMemory stop) }
+    ensures found { IfOk result (λ file. IsWithinLimits tokens.now
+        × IsFile (procedures file) tokens.now) }
+    ensures only { (file : List Procedure) → IsWithinLimits tokens.now → IsFile file tokens.now
+        → MatchResult result (λ found. procedures found ≡ file) (λ stop. IsParseMemory stop) }
     ensures fault { IfErr result (λ stop. IsParseStop tokens.now stop) }
-    ensures only_fault { (number i : ℕ) → IsTokenFault tokens.now number i → MatchResult result (λ _. ⊥) (λ stop. IsThisParseStop number i stop) }
+    ensures only_fault { (number i : ℕ) → IsTokenFault tokens.now number i
+        → MatchResult result (λ _. ⊥) (λ stop. IsThisParseStop number i stop) }
     ensures few { IfOk result (λ file. expression_nodes (procedures file) ≤ length tokens.now) }
 {
     file_or_fault(alloc, tokens)
 }
 
-/// The expression that the tokens spell, or their first fault.
+/// Returns the expression that the tokens spell, or their first error.
 fn expression_or_fault(alloc: Global, tokens: &[Token]) -> Result<Expr, ParseStop>
     requires { length tokens.now < 2 ^ 31 }
     ensures found { IfOk result (λ expr. IsLight tokens.now × IsFull (expression expr) tokens.now) }
@@ -101,15 +111,22 @@ fn expression_or_fault(alloc: Global, tokens: &[Token]) -> Result<Expr, ParseSto
     }
 }
 
-/// The expression that the tokens spell, quantifiers included, where they are fewer than 2^31. It is refused where the tokens have a
-/// fault as an expression, with the first one of them: 5 where the load passes 200, and else 4 at the first token with which no
-/// expression goes on, or at the number of tokens where they end too early; and for want of memory.
+/// Returns the expression that the tokens spell, which have to be fewer than 2^31. The expression
+/// may have quantifiers.
+///
+/// # Errors
+///
+/// `Fault` with the first error of the tokens, or `Memory`. The error is 5 at the first token after
+/// which the load exceeds 200, otherwise 4 at the first token with which no expression goes on, or
+/// at the number of tokens if they end too early.
 pub fn parse_expr(alloc: Global, tokens: &[Token]) -> Result<Expr, ParseStop>
     requires { length tokens.now < 2 ^ 31 }
     ensures found { IfOk result (λ expr. IsLight tokens.now × IsFull (expression expr) tokens.now) }
-    ensures only { (expr : Expression) → IsLight tokens.now → IsFull expr tokens.now → MatchResult result (λ found. expression found ≡ expr) (λ stop. IsParseMemory stop) }
+    ensures only { (expr : Expression) → IsLight tokens.now → IsFull expr tokens.now
+        → MatchResult result (λ found. expression found ≡ expr) (λ stop. IsParseMemory stop) }
     ensures fault { IfErr result (λ stop. IsExpressionStop tokens.now stop) }
-    ensures only_fault { (number i : ℕ) → IsExpressionFault tokens.now number i → MatchResult result (λ _. ⊥) (λ stop. IsThisParseStop number i stop) }
+    ensures only_fault { (number i : ℕ) → IsExpressionFault tokens.now number i
+        → MatchResult result (λ _. ⊥) (λ stop. IsThisParseStop number i stop) }
 {
     expression_or_fault(alloc, tokens)
 }

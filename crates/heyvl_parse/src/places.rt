@@ -7,7 +7,7 @@ ghost use Rattle.std.specs.Prelude.{◌≡◌};
 use heyvl_places::Span;
 use heyvl_syntax::Token;
 
-/// The first byte of the first token.
+/// Returns the first byte of the first token, or 0 if there is no token.
 fn first_byte(tokens: &[Token]) -> u32
     ensures { result ≡ first_byte tokens.now }
 {
@@ -17,7 +17,7 @@ fn first_byte(tokens: &[Token]) -> u32
     }
 }
 
-/// The end of the last token.
+/// Returns the end of the last token, or 0 if there is no token.
 fn last_end(tokens: &[Token]) -> u32
     ensures { result ≡ last_end tokens.now }
 {
@@ -27,7 +27,7 @@ fn last_end(tokens: &[Token]) -> u32
     }
 }
 
-/// The place of what stands before a rest.
+/// Returns the place of the tokens before `rest`.
 pub fn span_between(tokens: &[Token], rest: &[Token]) -> Span
     ensures { result ≡ extent (taken tokens.now rest.now) }
 {

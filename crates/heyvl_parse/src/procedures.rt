@@ -2,7 +2,10 @@
 
 ghost use Rattle.heyvl_parse.specs.internal.Statements.{braced, stmts};
 ghost use Rattle.heyvl_parse.specs.readers.Combinators.{kind, lead, list, list0, optional, starts};
-ghost use Rattle.heyvl_parse.specs.internal.Procedures.{clause_of, divided, is_clause, key_clause, key_proc, note, note_of, opening, param, params, proc_of, procedure, promise, signature, word_note};
+ghost use Rattle.heyvl_parse.specs.internal.Procedures.{clause_of, divided, is_clause, key_clause};
+ghost use Rattle.heyvl_parse.specs.internal.Procedures.{key_proc, note, note_of, opening, param};
+ghost use Rattle.heyvl_parse.specs.internal.Procedures.{params, proc_of, procedure, promise};
+ghost use Rattle.heyvl_parse.specs.internal.Procedures.{signature, word_note};
 ghost use Rattle.heyvl_parse.specs.readers.ReadParts.{expr, is_mark, pair};
 ghost use Rattle.heyvl_parse.specs.readers.Results.{Gives};
 ghost use Rattle.heyvl_syntax.specs.Expressions.{expression, expressions};
@@ -21,7 +24,7 @@ use heyvl_places::Name;
 use heyvl_syntax::{Expr, Key, Mark, Note, Param, Proc, Stmt, Token, TokenKind};
 use std::alloc::Global;
 
-/// The note that a word tells.
+/// Returns the note that an identifier names, if it names one.
 fn word_note(name: &Name) -> Option<Note>
     ensures { result ≡ word_note name.now }
 {
@@ -48,7 +51,7 @@ fn note_of(kind: &TokenKind) -> Option<Note>
     }
 }
 
-/// The note that the word at the front tells.
+/// Reads the name of a note.
 fn note_word(tokens: &[Token]) -> Result<(Note, &[Token]), PartStop>
     ensures value { Gives (λ x. x.0) (λ x. x.1.now) result (kind note_of tokens.now) }
     ensures shorter { IfOk result (λ x. length x.1.now < length tokens.now) }
@@ -57,9 +60,10 @@ fn note_word(tokens: &[Token]) -> Result<(Note, &[Token]), PartStop>
     known(note_of(&token.kind), tokens, rest)
 }
 
-/// The note at the front, where `@` stands there.
+/// Reads a note, if the first token is `@`.
 fn note(tokens: &[Token]) -> Result<(Option<Note>, &[Token]), PartStop>
-    ensures value { Gives (λ x. x.0) (λ x. x.1.now) result (optional (is_mark marks.AtSign) note tokens.now) }
+    ensures value { Gives (λ x. x.0) (λ x. x.1.now) result
+        (optional (is_mark marks.AtSign) note tokens.now) }
     ensures shorter { IfOk result (λ x. length x.1.now ≤ length tokens.now) }
 {
     if !starts_mark(Mark::AtSign, tokens) {
@@ -80,7 +84,7 @@ fn key_proc(key: Key) -> Option<bool>
     }
 }
 
-/// True for `coproc`, and false for `proc`.
+/// Returns true for `coproc`, false for `proc`, and nothing for any other token.
 pub(crate) fn proc_of(kind: &TokenKind) -> Option<bool>
     ensures { result ≡ proc_of kind.now }
 {
@@ -92,7 +96,7 @@ pub(crate) fn proc_of(kind: &TokenKind) -> Option<bool>
     }
 }
 
-/// The `proc` or `coproc` at the front: whether it is a `coproc`.
+/// Reads `proc` or `coproc`, and returns true for `coproc`.
 fn proc_key(tokens: &[Token]) -> Result<(bool, &[Token]), PartStop>
     ensures value { Gives (λ x. x.0) (λ x. x.1.now) result (kind proc_of tokens.now) }
     ensures shorter { IfOk result (λ x. length x.1.now < length tokens.now) }
@@ -101,7 +105,7 @@ fn proc_key(tokens: &[Token]) -> Result<(bool, &[Token]), PartStop>
     known(proc_of(&token.kind), tokens, rest)
 }
 
-/// The note of a procedure, and whether it is a coproc.
+/// Reads the note of a procedure and `proc` or `coproc`; the Boolean is true for `coproc`.
 fn opening(tokens: &[Token]) -> Result<((Option<Note>, bool), &[Token]), PartStop>
     ensures value { Gives (λ x. x.0) (λ x. x.1.now) result (opening tokens.now) }
     ensures shorter { IfOk result (λ x. length x.1.now < length tokens.now) }
@@ -110,7 +114,7 @@ fn opening(tokens: &[Token]) -> Result<((Option<Note>, bool), &[Token]), PartSto
     beside(note, proc_key(rest))
 }
 
-/// An input or an output.
+/// Reads an input or an output.
 fn param(alloc: Global, tokens: &[Token]) -> Result<(Param, &[Token]), PartStop>
     ensures value { Gives (λ x. x.0) (λ x. x.1.now) result (param tokens.now) }
     ensures shorter { IfOk result (λ x. length x.1.now < length tokens.now) }
@@ -124,18 +128,20 @@ fn param(alloc: Global, tokens: &[Token]) -> Result<(Param, &[Token]), PartStop>
     Ok((found, rest))
 }
 
-/// A `,` and a parameter.
+/// Reads a `,` and a parameter.
 fn further_param(alloc: Global, tokens: &[Token]) -> Result<(Param, &[Token]), PartStop>
-    ensures value { Gives (λ x. x.0) (λ x. x.1.now) result (lead (is_mark marks.Comma) param tokens.now) }
+    ensures value { Gives (λ x. x.0) (λ x. x.1.now) result
+        (lead (is_mark marks.Comma) param tokens.now) }
     ensures shorter { IfOk result (λ x. length x.1.now < length tokens.now) }
 {
     let (_, rest) = expect(Mark::Comma, tokens)?;
     param(alloc, rest)
 }
 
-/// Parameters with `,` between.
+/// Reads one or more parameters with `,` between them.
 fn some_params(alloc: Global, tokens: &[Token]) -> Result<(Vec<Param>, &[Token]), PartStop>
-    ensures value { (n : ℕ) → length tokens.now < n → Gives (λ x. x.0.items) (λ x. x.1.now) result (list param n tokens.now) }
+    ensures value { (n : ℕ) → length tokens.now < n
+        → Gives (λ x. x.0.items) (λ x. x.1.now) result (list param n tokens.now) }
     ensures shorter { IfOk result (λ x. length x.1.now < length tokens.now) }
 {
     let (first, mut rest) = param(alloc, tokens)?;
@@ -149,9 +155,10 @@ fn some_params(alloc: Global, tokens: &[Token]) -> Result<(Vec<Param>, &[Token])
     Ok((found, rest))
 }
 
-/// Parameters with `,` between, or none before `)`.
+/// Reads parameters with `,` between them, or none before `)`.
 fn params_inside(alloc: Global, tokens: &[Token]) -> Result<(Vec<Param>, &[Token]), PartStop>
-    ensures value { (n : ℕ) → length tokens.now < n → Gives (λ x. x.0.items) (λ x. x.1.now) result (list0 param n tokens.now) }
+    ensures value { (n : ℕ) → length tokens.now < n
+        → Gives (λ x. x.0.items) (λ x. x.1.now) result (list0 param n tokens.now) }
     ensures shorter { IfOk result (λ x. length x.1.now ≤ length tokens.now) }
 {
     if starts_mark(Mark::ParenRight, tokens) {
@@ -160,9 +167,10 @@ fn params_inside(alloc: Global, tokens: &[Token]) -> Result<(Vec<Param>, &[Token
     some_params(alloc, tokens)
 }
 
-/// Parameters in parentheses.
+/// Reads parameters with their parentheses.
 fn params(alloc: Global, tokens: &[Token]) -> Result<(Vec<Param>, &[Token]), PartStop>
-    ensures value { (n : ℕ) → length tokens.now < n → Gives (λ x. x.0.items) (λ x. x.1.now) result (params n tokens.now) }
+    ensures value { (n : ℕ) → length tokens.now < n
+        → Gives (λ x. x.0.items) (λ x. x.1.now) result (params n tokens.now) }
     ensures shorter { IfOk result (λ x. length x.1.now < length tokens.now) }
 {
     let (_, rest) = expect(Mark::ParenLeft, tokens)?;
@@ -170,9 +178,11 @@ fn params(alloc: Global, tokens: &[Token]) -> Result<(Vec<Param>, &[Token]), Par
     closed(found, Mark::ParenRight, rest)
 }
 
-/// The inputs and the outputs of a procedure.
+/// Reads the inputs and the outputs of a procedure.
 fn ends(alloc: Global, tokens: &[Token]) -> Result<((Vec<Param>, Vec<Param>), &[Token]), PartStop>
-    ensures value { (n : ℕ) → length tokens.now < n → Gives (λ x. (x.0.0.items, x.0.1.items)) (λ x. x.1.now) result (pair (params n) (lead (is_mark marks.Arrow) (params n)) tokens.now) }
+    ensures value { (n : ℕ) → length tokens.now < n
+        → Gives (λ x. (x.0.0.items, x.0.1.items)) (λ x. x.1.now) result
+        (pair (params n) (lead (is_mark marks.Arrow) (params n)) tokens.now) }
     ensures shorter { IfOk result (λ x. length x.1.now < length tokens.now) }
 {
     let (inputs, rest) = params(alloc, tokens)?;
@@ -180,12 +190,14 @@ fn ends(alloc: Global, tokens: &[Token]) -> Result<((Vec<Param>, Vec<Param>), &[
     beside(inputs, params(alloc, rest))
 }
 
-/// The name of a procedure, beside its inputs and its outputs.
+/// Reads the name of a procedure, its inputs and its outputs.
 fn signature(
     alloc: Global,
     tokens: &[Token],
 ) -> Result<((Name, (Vec<Param>, Vec<Param>)), &[Token]), PartStop>
-    ensures value { (n : ℕ) → length tokens.now < n → Gives (λ x. (x.0.0, (x.0.1.0.items, x.0.1.1.items))) (λ x. x.1.now) result (signature n tokens.now) }
+    ensures value { (n : ℕ) → length tokens.now < n
+        → Gives (λ x. (x.0.0, (x.0.1.0.items, x.0.1.1.items))) (λ x. x.1.now) result
+        (signature n tokens.now) }
     ensures shorter { IfOk result (λ x. length x.1.now < length tokens.now) }
 {
     let (name, rest) = word(alloc, tokens)?;
@@ -202,7 +214,7 @@ fn key_clause(key: Key) -> Option<bool>
     }
 }
 
-/// True for `post`, and false for `pre`.
+/// Returns true for `post`, false for `pre`, and nothing for any other token.
 fn clause_of(kind: &TokenKind) -> Option<bool>
     ensures { result ≡ clause_of kind.now }
 {
@@ -214,7 +226,7 @@ fn clause_of(kind: &TokenKind) -> Option<bool>
     }
 }
 
-/// The `pre` or `post` at the front: whether it is a `post`.
+/// Reads `pre` or `post`, and returns true for `post`.
 fn clause_key(tokens: &[Token]) -> Result<(bool, &[Token]), PartStop>
     ensures value { Gives (λ x. x.0) (λ x. x.1.now) result (kind clause_of tokens.now) }
     ensures shorter { IfOk result (λ x. length x.1.now < length tokens.now) }
@@ -223,7 +235,7 @@ fn clause_key(tokens: &[Token]) -> Result<(bool, &[Token]), PartStop>
     known(clause_of(&token.kind), tokens, rest)
 }
 
-/// Whether `pre` or `post` stands at the front.
+/// Returns true if the first token is `pre` or `post`.
 fn starts_clause(tokens: &[Token]) -> bool
     ensures { result ≡ starts is_clause tokens.now }
 {
@@ -233,18 +245,22 @@ fn starts_clause(tokens: &[Token]) -> bool
     }
 }
 
-/// A clause: whether it is a `post`, and what it says.
+/// Reads a clause; the Boolean is true for a post clause.
 fn clause(alloc: Global, tokens: &[Token]) -> Result<((bool, Expr), &[Token]), PartStop>
-    ensures value { (n : ℕ) → length tokens.now < n → Gives (λ x. (x.0.0, expression x.0.1)) (λ x. x.1.now) result (pair (kind clause_of) (expr n) tokens.now) }
+    ensures value { (n : ℕ) → length tokens.now < n
+        → Gives (λ x. (x.0.0, expression x.0.1)) (λ x. x.1.now) result
+        (pair (kind clause_of) (expr n) tokens.now) }
     ensures shorter { IfOk result (λ x. length x.1.now < length tokens.now) }
 {
     let (post, rest) = clause_key(tokens)?;
     beside(post, whole(alloc, rest))
 }
 
-/// The pre and the post clauses at the front.
+/// Reads clauses, and returns the pre clauses and the post clauses.
 fn clauses(alloc: Global, tokens: &[Token]) -> Result<((Vec<Expr>, Vec<Expr>), &[Token]), PartStop>
-    ensures value { (n : ℕ) → length tokens.now < n → Gives (λ x. (expressions x.0.0.items, expressions x.0.1.items)) (λ x. x.1.now) result (divided n tokens.now) }
+    ensures value { (n : ℕ) → length tokens.now < n
+        → Gives (λ x. (expressions x.0.0.items, expressions x.0.1.items)) (λ x. x.1.now) result
+        (divided n tokens.now) }
     ensures shorter { IfOk result (λ x. length x.1.now ≤ length tokens.now) }
 {
     let mut pres = Vec::new(alloc);
@@ -262,9 +278,11 @@ fn clauses(alloc: Global, tokens: &[Token]) -> Result<((Vec<Expr>, Vec<Expr>), &
     Ok(((pres, posts), rest))
 }
 
-/// The body at the front, where `{` stands there.
+/// Reads a body, if the first token is `{`.
 fn body(alloc: Global, tokens: &[Token]) -> Result<(Option<Vec<Stmt>>, &[Token]), PartStop>
-    ensures value { (n : ℕ) → length tokens.now < n → Gives (λ x. optional_block x.0) (λ x. x.1.now) result (optional (is_mark marks.BraceLeft) (braced (stmts n)) tokens.now) }
+    ensures value { (n : ℕ) → length tokens.now < n
+        → Gives (λ x. optional_block x.0) (λ x. x.1.now) result
+        (optional (is_mark marks.BraceLeft) (braced (stmts n)) tokens.now) }
     ensures shorter { IfOk result (λ x. length x.1.now ≤ length tokens.now) }
 {
     if !starts_mark(Mark::BraceLeft, tokens) {
@@ -274,21 +292,26 @@ fn body(alloc: Global, tokens: &[Token]) -> Result<(Option<Vec<Stmt>>, &[Token])
     Ok((Some(found), rest))
 }
 
-/// The pre and the post clauses of a procedure, beside its body.
+/// Reads the clauses and the body of a procedure.
 fn promise(
     alloc: Global,
     tokens: &[Token],
 ) -> Result<(((Vec<Expr>, Vec<Expr>), Option<Vec<Stmt>>), &[Token]), PartStop>
-    ensures value { (n : ℕ) → length tokens.now < n → Gives (λ x. ((expressions x.0.0.0.items, expressions x.0.0.1.items), optional_block x.0.1)) (λ x. x.1.now) result (promise (braced (stmts n)) n tokens.now) }
+    ensures value { (n : ℕ) → length tokens.now < n
+        → Gives (λ x.
+        ((expressions x.0.0.0.items, expressions x.0.0.1.items), optional_block x.0.1))
+        (λ x. x.1.now) result (promise (braced (stmts n)) n tokens.now) }
     ensures shorter { IfOk result (λ x. length x.1.now ≤ length tokens.now) }
 {
     let (found, rest) = clauses(alloc, tokens)?;
     beside(found, body(alloc, rest))
 }
 
-/// The procedure at the front.
+/// Reads a procedure.
 pub(crate) fn procedure(alloc: Global, tokens: &[Token]) -> Result<(Proc, &[Token]), PartStop>
-    ensures value { (n : ℕ) → length tokens.now < n → Gives (λ x. tree_of x.0) (λ x. x.1.now) result (procedure (braced (stmts n)) n tokens.now) }
+    ensures value { (n : ℕ) → length tokens.now < n
+        → Gives (λ x. tree_of x.0) (λ x. x.1.now) result
+        (procedure (braced (stmts n)) n tokens.now) }
     ensures shorter { IfOk result (λ x. length x.1.now < length tokens.now) }
 {
     let (front, rest) = opening(tokens)?;

@@ -3,7 +3,9 @@
 ghost use Rattle.heyvl_parse.specs.readers.Combinators.{lead, list, trail};
 ghost use Rattle.heyvl_parse.specs.readers.ReadParts.{expr, is_mark};
 ghost use Rattle.heyvl_parse.specs.readers.Results.{Gives};
-ghost use Rattle.heyvl_parse.specs.internal.Rights.{call, choose, enclosed_expr, flip, is_a_word, is_call, key_right, kind_right, no_call, right, right_start, two, unif, weighted, weights};
+ghost use Rattle.heyvl_parse.specs.internal.Rights.{call, choose, enclosed_expr, flip, is_a_word};
+ghost use Rattle.heyvl_parse.specs.internal.Rights.{is_call, key_right, kind_right, no_call, right};
+ghost use Rattle.heyvl_parse.specs.internal.Rights.{right_start, two, unif, weighted, weights};
 ghost use Rattle.heyvl_syntax.specs.Expressions.{expression, expressions};
 ghost use Rattle.heyvl_syntax.specs.Statements.{choices, right_side};
 ghost use Rattle.heyvl_syntax.specs.declared.marks.Mark.TheVariants as marks;
@@ -18,7 +20,7 @@ use heyvl_places::Name;
 use heyvl_syntax::{Expr, Key, Mark, Right, Token, TokenKind};
 use std::alloc::Global;
 
-/// What a right side begins with.
+/// The kind of right side that a token begins.
 #[derive(Clone, Copy)]
 pub(crate) enum RightStart {
     /// `flip`
@@ -27,7 +29,7 @@ pub(crate) enum RightStart {
     Unif,
     /// `choose`
     Choose,
-    /// Anything else: an expression.
+    /// Any other token: an expression.
     Plain,
 }
 
@@ -42,7 +44,7 @@ fn is_a_word(kind: &TokenKind) -> bool
     }
 }
 
-/// Whether a word and then `(` stand at the front.
+/// Returns true if the tokens begin with an identifier and `(`.
 pub(crate) fn is_call(tokens: &[Token]) -> bool
     ensures { result ≡ is_call tokens.now }
 {
@@ -83,39 +85,45 @@ fn right_start(tokens: &[Token]) -> RightStart
     }
 }
 
-/// A call: the name, and what stands in the parentheses behind it.
+/// Reads a call: a name, and arguments with their parentheses.
 pub(crate) fn call(
     alloc: Global,
     tokens: &[Token],
 ) -> Result<((Name, Vec<Expr>), &[Token]), PartStop>
-    ensures value { (n : ℕ) → length tokens.now < n → Gives (λ x. (x.0.0, expressions x.0.1.items)) (λ x. x.1.now) result (call n tokens.now) }
+    ensures value { (n : ℕ) → length tokens.now < n
+        → Gives (λ x. (x.0.0, expressions x.0.1.items)) (λ x. x.1.now) result (call n tokens.now) }
     ensures shorter { IfOk result (λ x. length x.1.now < length tokens.now) }
 {
     let (name, rest) = word(alloc, tokens)?;
     beside(name, arguments(alloc, rest))
 }
 
-/// An expression, and the tokens behind the mark that has to follow it.
+/// Reads an expression and the symbol `mark`.
 fn expr_before(alloc: Global, mark: Mark, tokens: &[Token]) -> Result<(Expr, &[Token]), PartStop>
-    ensures value { (n : ℕ) → length tokens.now < n → Gives (λ x. expression x.0) (λ x. x.1.now) result (trail (expr n) (is_mark mark) tokens.now) }
+    ensures value { (n : ℕ) → length tokens.now < n
+        → Gives (λ x. expression x.0) (λ x. x.1.now) result
+        (trail (expr n) (is_mark mark) tokens.now) }
     ensures shorter { IfOk result (λ x. length x.1.now < length tokens.now) }
 {
     let (found, rest) = whole(alloc, tokens)?;
     closed(found, mark, rest)
 }
 
-/// An expression in parentheses.
+/// Reads an expression in parentheses.
 pub(crate) fn enclosed_expr(alloc: Global, tokens: &[Token]) -> Result<(Expr, &[Token]), PartStop>
-    ensures value { (n : ℕ) → length tokens.now < n → Gives (λ x. expression x.0) (λ x. x.1.now) result (enclosed_expr n tokens.now) }
+    ensures value { (n : ℕ) → length tokens.now < n
+        → Gives (λ x. expression x.0) (λ x. x.1.now) result (enclosed_expr n tokens.now) }
     ensures shorter { IfOk result (λ x. length x.1.now < length tokens.now) }
 {
     let (_, rest) = expect(Mark::ParenLeft, tokens)?;
     expr_before(alloc, Mark::ParenRight, rest)
 }
 
-/// Two expressions in parentheses, with `,` between.
+/// Reads two expressions in parentheses, with `,` between them.
 pub(crate) fn two(alloc: Global, tokens: &[Token]) -> Result<((Expr, Expr), &[Token]), PartStop>
-    ensures value { (n : ℕ) → length tokens.now < n → Gives (λ x. (expression x.0.0, expression x.0.1)) (λ x. x.1.now) result (two n tokens.now) }
+    ensures value { (n : ℕ) → length tokens.now < n
+        → Gives (λ x. (expression x.0.0, expression x.0.1)) (λ x. x.1.now) result
+        (two n tokens.now) }
     ensures shorter { IfOk result (λ x. length x.1.now < length tokens.now) }
 {
     let (_, rest) = expect(Mark::ParenLeft, tokens)?;
@@ -123,27 +131,32 @@ pub(crate) fn two(alloc: Global, tokens: &[Token]) -> Result<((Expr, Expr), &[To
     beside(first, expr_before(alloc, Mark::ParenRight, rest))
 }
 
-/// A weight, `:` and a value.
+/// Reads a weight, `:` and a value.
 fn weighted(alloc: Global, tokens: &[Token]) -> Result<((Expr, Expr), &[Token]), PartStop>
-    ensures value { (n : ℕ) → length tokens.now < n → Gives (λ x. (expression x.0.0, expression x.0.1)) (λ x. x.1.now) result (weighted n tokens.now) }
+    ensures value { (n : ℕ) → length tokens.now < n
+        → Gives (λ x. (expression x.0.0, expression x.0.1)) (λ x. x.1.now) result
+        (weighted n tokens.now) }
     ensures shorter { IfOk result (λ x. length x.1.now < length tokens.now) }
 {
     let (weight, rest) = expr_before(alloc, Mark::Colon, tokens)?;
     beside(weight, whole(alloc, rest))
 }
 
-/// A `,` and a weighted value.
+/// Reads a `,` and a weighted value.
 fn further_weighted(alloc: Global, tokens: &[Token]) -> Result<((Expr, Expr), &[Token]), PartStop>
-    ensures value { (n : ℕ) → length tokens.now < n → Gives (λ x. (expression x.0.0, expression x.0.1)) (λ x. x.1.now) result (lead (is_mark marks.Comma) (weighted n) tokens.now) }
+    ensures value { (n : ℕ) → length tokens.now < n
+        → Gives (λ x. (expression x.0.0, expression x.0.1)) (λ x. x.1.now) result
+        (lead (is_mark marks.Comma) (weighted n) tokens.now) }
     ensures shorter { IfOk result (λ x. length x.1.now < length tokens.now) }
 {
     let (_, rest) = expect(Mark::Comma, tokens)?;
     weighted(alloc, rest)
 }
 
-/// Weighted values with `,` between.
+/// Reads one or more weighted values with `,` between them.
 fn all_weighted(alloc: Global, tokens: &[Token]) -> Result<(Vec<(Expr, Expr)>, &[Token]), PartStop>
-    ensures value { (n : ℕ) → length tokens.now < n → Gives (λ x. choices x.0.items) (λ x. x.1.now) result (list (weighted n) n tokens.now) }
+    ensures value { (n : ℕ) → length tokens.now < n
+        → Gives (λ x. choices x.0.items) (λ x. x.1.now) result (list (weighted n) n tokens.now) }
     ensures shorter { IfOk result (λ x. length x.1.now < length tokens.now) }
 {
     let (first, mut rest) = weighted(alloc, tokens)?;
@@ -157,9 +170,10 @@ fn all_weighted(alloc: Global, tokens: &[Token]) -> Result<(Vec<(Expr, Expr)>, &
     Ok((found, rest))
 }
 
-/// Weighted values in braces.
+/// Reads weighted values in braces.
 fn weights(alloc: Global, tokens: &[Token]) -> Result<(Vec<(Expr, Expr)>, &[Token]), PartStop>
-    ensures value { (n : ℕ) → length tokens.now < n → Gives (λ x. choices x.0.items) (λ x. x.1.now) result (weights n tokens.now) }
+    ensures value { (n : ℕ) → length tokens.now < n
+        → Gives (λ x. choices x.0.items) (λ x. x.1.now) result (weights n tokens.now) }
     ensures shorter { IfOk result (λ x. length x.1.now < length tokens.now) }
 {
     let (_, rest) = expect(Mark::BraceLeft, tokens)?;
@@ -167,9 +181,10 @@ fn weights(alloc: Global, tokens: &[Token]) -> Result<(Vec<(Expr, Expr)>, &[Toke
     closed(parts, Mark::BraceRight, rest)
 }
 
-/// `flip` and a probability in parentheses.
+/// Reads `flip` and a probability in parentheses.
 fn flip(alloc: Global, tokens: &[Token]) -> Result<(Right, &[Token]), PartStop>
-    ensures value { (n : ℕ) → length tokens.now < n → Gives (λ x. right_side x.0) (λ x. x.1.now) result (flip n tokens.now) }
+    ensures value { (n : ℕ) → length tokens.now < n
+        → Gives (λ x. right_side x.0) (λ x. x.1.now) result (flip n tokens.now) }
     ensures shorter { IfOk result (λ x. length x.1.now < length tokens.now) }
 {
     let (_, rest) = expect_key(Key::Flip, tokens)?;
@@ -177,9 +192,10 @@ fn flip(alloc: Global, tokens: &[Token]) -> Result<(Right, &[Token]), PartStop>
     Ok((Right::Flip(probability), rest))
 }
 
-/// `unif` and two ends in parentheses.
+/// Reads `unif` and its two ends in parentheses.
 fn unif(alloc: Global, tokens: &[Token]) -> Result<(Right, &[Token]), PartStop>
-    ensures value { (n : ℕ) → length tokens.now < n → Gives (λ x. right_side x.0) (λ x. x.1.now) result (unif n tokens.now) }
+    ensures value { (n : ℕ) → length tokens.now < n
+        → Gives (λ x. right_side x.0) (λ x. x.1.now) result (unif n tokens.now) }
     ensures shorter { IfOk result (λ x. length x.1.now < length tokens.now) }
 {
     let (_, rest) = expect_key(Key::Unif, tokens)?;
@@ -187,9 +203,10 @@ fn unif(alloc: Global, tokens: &[Token]) -> Result<(Right, &[Token]), PartStop>
     Ok((Right::Unif(ends.0, ends.1), rest))
 }
 
-/// `choose` and weighted values in braces.
+/// Reads `choose` and weighted values in braces.
 fn choose(alloc: Global, tokens: &[Token]) -> Result<(Right, &[Token]), PartStop>
-    ensures value { (n : ℕ) → length tokens.now < n → Gives (λ x. right_side x.0) (λ x. x.1.now) result (choose n tokens.now) }
+    ensures value { (n : ℕ) → length tokens.now < n
+        → Gives (λ x. right_side x.0) (λ x. x.1.now) result (choose n tokens.now) }
     ensures shorter { IfOk result (λ x. length x.1.now < length tokens.now) }
 {
     let (_, rest) = expect_key(Key::Choose, tokens)?;
@@ -197,9 +214,10 @@ fn choose(alloc: Global, tokens: &[Token]) -> Result<(Right, &[Token]), PartStop
     Ok((Right::Choose(parts), rest))
 }
 
-/// A right side that is no call.
+/// Reads a right side that is not a call.
 fn no_call(alloc: Global, tokens: &[Token]) -> Result<(Right, &[Token]), PartStop>
-    ensures value { (n : ℕ) → length tokens.now < n → Gives (λ x. right_side x.0) (λ x. x.1.now) result (no_call n tokens.now) }
+    ensures value { (n : ℕ) → length tokens.now < n
+        → Gives (λ x. right_side x.0) (λ x. x.1.now) result (no_call n tokens.now) }
     ensures shorter { IfOk result (λ x. length x.1.now < length tokens.now) }
 {
     match right_start(tokens) {
@@ -213,10 +231,11 @@ fn no_call(alloc: Global, tokens: &[Token]) -> Result<(Right, &[Token]), PartSto
     }
 }
 
-/// A right side. A word that `(` follows is a call.
+/// Reads a right side. An identifier with `(` after it begins a call.
 #[inline(never)]
 pub(crate) fn right(alloc: Global, tokens: &[Token]) -> Result<(Right, &[Token]), PartStop>
-    ensures value { (n : ℕ) → length tokens.now < n → Gives (λ x. right_side x.0) (λ x. x.1.now) result (right n tokens.now) }
+    ensures value { (n : ℕ) → length tokens.now < n
+        → Gives (λ x. right_side x.0) (λ x. x.1.now) result (right n tokens.now) }
     ensures shorter { IfOk result (λ x. length x.1.now < length tokens.now) }
 {
     if is_call(tokens) {

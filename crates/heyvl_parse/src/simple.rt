@@ -1,11 +1,17 @@
-//! The parser of the statements that hold no block. Each is put behind those before it: room is made first, and the statement is built
-//! in its place.
+//! The parser of the statements without blocks. Each function appends a statement: it reserves the
+//! room first, and then builds the statement in its place. It returns the tokens after the
+//! statement.
 
-ghost use Rattle.heyvl_parse.specs.readers.Combinators.{added, kind, optional, sign, spanned, starts};
+ghost use Rattle.heyvl_parse.specs.readers.Combinators.{added, kind, optional, sign, spanned};
+ghost use Rattle.heyvl_parse.specs.readers.Combinators.{starts};
 ghost use Rattle.heyvl_parse.specs.readers.ReadParts.{is_mark, mapped};
 ghost use Rattle.heyvl_parse.specs.readers.Results.{Gives};
 ghost use Rattle.heyvl_parse.specs.internal.Rights.{call, right};
-ghost use Rattle.heyvl_parse.specs.internal.Statements.{alone, assign_tree, assigned, by_key, check_tree, checked, declared, given, havoc_tree, havocked, is_pick, is_reward, key_check, key_havoc, key_pick, key_validate, rewarded, valued, var_tree};
+ghost use Rattle.heyvl_parse.specs.internal.Statements.{alone, assign_tree, assigned, by_key};
+ghost use Rattle.heyvl_parse.specs.internal.Statements.{check_tree, checked, declared, given};
+ghost use Rattle.heyvl_parse.specs.internal.Statements.{havoc_tree, havocked, is_pick, is_reward};
+ghost use Rattle.heyvl_parse.specs.internal.Statements.{key_check, key_havoc, key_pick};
+ghost use Rattle.heyvl_parse.specs.internal.Statements.{key_validate, rewarded, valued, var_tree};
 ghost use Rattle.heyvl_syntax.specs.Statements.{Statement, optional_right, right_side, statement};
 ghost use Rattle.heyvl_syntax.specs.declared.marks.Mark.TheVariants as marks;
 ghost use Rattle.std.specs.Prelude.{IfOk, length, map, ◌<◌, ◌≡◌, ◌≤◌, ℕ};
@@ -22,7 +28,7 @@ use heyvl_places::{CheckKind, Name, Span};
 use heyvl_syntax::{Key, Mark, Right, Stmt, Token, TokenKind};
 use std::alloc::Global;
 
-/// Which check a key begins.
+/// Returns the check that a keyword begins, if it begins one.
 fn check_of(key: Key) -> Option<CheckKind>
     ensures { result ≡ key_check key }
 {
@@ -35,7 +41,7 @@ fn check_of(key: Key) -> Option<CheckKind>
     }
 }
 
-/// Which check stands at the front, and the tokens behind it.
+/// Reads the keyword of a check.
 fn check_word(tokens: &[Token]) -> Result<(CheckKind, &[Token]), PartStop>
     ensures value { Gives (λ x. x.0) (λ x. x.1.now) result (kind (by_key key_check) tokens.now) }
     ensures shorter { IfOk result (λ x. length x.1.now < length tokens.now) }
@@ -54,7 +60,7 @@ fn validate_of(key: Key) -> Option<bool>
     }
 }
 
-/// True for `covalidate` and false for `validate` at the front, and the tokens behind it.
+/// Reads `validate` or `covalidate`, and returns true for `covalidate`.
 fn validate_word(tokens: &[Token]) -> Result<(bool, &[Token]), PartStop>
     ensures value { Gives (λ x. x.0) (λ x. x.1.now) result (kind (by_key key_validate) tokens.now) }
     ensures shorter { IfOk result (λ x. length x.1.now < length tokens.now) }
@@ -73,7 +79,7 @@ fn havoc_of(key: Key) -> Option<bool>
     }
 }
 
-/// True for `cohavoc` and false for `havoc` at the front, and the tokens behind it.
+/// Reads `havoc` or `cohavoc`, and returns true for `cohavoc`.
 fn havoc_word(tokens: &[Token]) -> Result<(bool, &[Token]), PartStop>
     ensures value { Gives (λ x. x.0) (λ x. x.1.now) result (kind (by_key key_havoc) tokens.now) }
     ensures shorter { IfOk result (λ x. length x.1.now < length tokens.now) }
@@ -88,7 +94,7 @@ fn is_reward(kind: &TokenKind) -> bool
     is_key(Key::Reward, kind) || is_key(Key::Tick, kind)
 }
 
-/// The place of `reward` or `tick`, one of which has to stand at the front, and the tokens behind it.
+/// Reads `reward` or `tick`, and returns its place.
 fn reward_word(tokens: &[Token]) -> Result<(Span, &[Token]), PartStop>
     ensures value { Gives (λ x. x.0) (λ x. x.1.now) result (sign is_reward tokens.now) }
     ensures shorter { IfOk result (λ x. length x.1.now < length tokens.now) }
@@ -111,7 +117,7 @@ fn pick_of(key: Key) -> Option<bool>
     }
 }
 
-/// True for `\\cup` and false for `\\cap` at the front, and the tokens behind it.
+/// Reads `\cap` or `\cup`, and returns true for `\cup`.
 pub(crate) fn pick_word(tokens: &[Token]) -> Result<(bool, &[Token]), PartStop>
     ensures value { Gives (λ x. x.0) (λ x. x.1.now) result (kind (by_key key_pick) tokens.now) }
     ensures shorter { IfOk result (λ x. length x.1.now < length tokens.now) }
@@ -120,7 +126,7 @@ pub(crate) fn pick_word(tokens: &[Token]) -> Result<(bool, &[Token]), PartStop>
     known(pick_of(key), tokens, rest)
 }
 
-/// Whether a token of this kind is `\cap` or `\cup`.
+/// Returns true for `\cap` and `\cup`.
 fn is_pick(kind: &TokenKind) -> bool
     ensures { result ≡ is_pick kind.now }
 {
@@ -132,7 +138,7 @@ fn is_pick(kind: &TokenKind) -> bool
     }
 }
 
-/// Whether `\cap` or `\cup` stands at the front.
+/// Returns true if the first token is `\cap` or `\cup`.
 pub(crate) fn starts_pick(tokens: &[Token]) -> bool
     ensures { result ≡ starts is_pick tokens.now }
 {
@@ -142,18 +148,21 @@ pub(crate) fn starts_pick(tokens: &[Token]) -> bool
     }
 }
 
-/// `=` and a right side.
+/// Reads `=` and a right side.
 fn given(alloc: Global, tokens: &[Token]) -> Result<(Right, &[Token]), PartStop>
-    ensures value { (n : ℕ) → length tokens.now < n → Gives (λ x. right_side x.0) (λ x. x.1.now) result (given n tokens.now) }
+    ensures value { (n : ℕ) → length tokens.now < n
+        → Gives (λ x. right_side x.0) (λ x. x.1.now) result (given n tokens.now) }
     ensures shorter { IfOk result (λ x. length x.1.now < length tokens.now) }
 {
     let (_, rest) = expect(Mark::Assign, tokens)?;
     right(alloc, rest)
 }
 
-/// What a variable is given, where `=` stands at the front.
+/// Reads `=` and a right side, if the first token is `=`.
 fn value(alloc: Global, tokens: &[Token]) -> Result<(Option<Right>, &[Token]), PartStop>
-    ensures value { (n : ℕ) → length tokens.now < n → Gives (λ x. optional_right x.0) (λ x. x.1.now) result (optional (is_mark marks.Assign) (given n) tokens.now) }
+    ensures value { (n : ℕ) → length tokens.now < n
+        → Gives (λ x. optional_right x.0) (λ x. x.1.now) result
+        (optional (is_mark marks.Assign) (given n) tokens.now) }
     ensures shorter { IfOk result (λ x. length x.1.now ≤ length tokens.now) }
 {
     if starts_mark(Mark::Assign, tokens) {
@@ -163,14 +172,16 @@ fn value(alloc: Global, tokens: &[Token]) -> Result<(Option<Right>, &[Token]), P
     Ok((None, tokens))
 }
 
-/// Puts a `var` statement behind the others, and gives the tokens behind it.
+/// Appends a `var` statement to `found`.
 #[inline(never)]
 pub(crate) fn var<'a>(
     alloc: Global,
     found: &mut Vec<Stmt>,
     tokens: &'a [Token],
 ) -> Result<&'a [Token], PartStop>
-    ensures value { (n : ℕ) → length tokens.now < n → Gives (λ _. map statement found.new.items) (λ rest. rest.now) result (added (map statement found.old.items) (spanned var_tree (declared n) tokens.now)) }
+    ensures value { (n : ℕ) → length tokens.now < n
+        → Gives (λ _. map statement found.new.items) (λ rest. rest.now) result
+        (added (map statement found.old.items) (spanned var_tree (declared n) tokens.now)) }
     ensures shorter { IfOk result (λ rest. length rest.now < length tokens.now) }
 {
     found.reserve(1)?;
@@ -181,14 +192,17 @@ pub(crate) fn var<'a>(
     Ok(rest)
 }
 
-/// Puts a call alone, which has no targets, behind the others, and gives the tokens behind it.
+/// Appends a call without targets to `found`.
 #[inline(never)]
 fn call_alone<'a>(
     alloc: Global,
     found: &mut Vec<Stmt>,
     tokens: &'a [Token],
 ) -> Result<&'a [Token], PartStop>
-    ensures value { (n : ℕ) → length tokens.now < n → Gives (λ _. map statement found.new.items) (λ rest. rest.now) result (added (map statement found.old.items) (spanned assign_tree (mapped alone (call n)) tokens.now)) }
+    ensures value { (n : ℕ) → length tokens.now < n
+        → Gives (λ _. map statement found.new.items) (λ rest. rest.now) result
+        (added (map statement found.old.items)
+        (spanned assign_tree (mapped alone (call n)) tokens.now)) }
     ensures shorter { IfOk result (λ rest. length rest.now < length tokens.now) }
 {
     found.reserve(1)?;
@@ -198,8 +212,8 @@ fn call_alone<'a>(
     Ok(rest)
 }
 
-/// Puts an assignment to these targets, which stand at the front of the tokens, behind the others. Its right side is what `side` begins
-/// with, and the tokens behind that are given.
+/// Appends an assignment to `targets`, which are at the beginning of `tokens`, to `found`. Its
+/// right side is at the beginning of `side`. Returns the tokens after it.
 #[inline(never)]
 fn assign_right<'a>(
     alloc: Global,
@@ -208,7 +222,10 @@ fn assign_right<'a>(
     tokens: &[Token],
     side: &'a [Token],
 ) -> Result<&'a [Token], PartStop>
-    ensures value { (n : ℕ) → length side.now < n → Gives (λ _. map statement found.new.items) (λ rest. rest.now) result (added (map statement found.old.items) (valued targets.items tokens.now (right n side.now))) }
+    ensures value { (n : ℕ) → length side.now < n
+        → Gives (λ _. map statement found.new.items) (λ rest. rest.now) result
+        (added (map statement found.old.items)
+        (valued targets.items tokens.now (right n side.now))) }
     ensures shorter { IfOk result (λ rest. length rest.now < length side.now) }
 {
     found.reserve(1)?;
@@ -218,14 +235,16 @@ fn assign_right<'a>(
     Ok(rest)
 }
 
-/// Puts a statement that is an assignment or a call behind the others, and gives the tokens behind it.
+/// Appends an assignment or a call to `found`.
 #[inline(never)]
 pub(crate) fn assign<'a>(
     alloc: Global,
     found: &mut Vec<Stmt>,
     tokens: &'a [Token],
 ) -> Result<&'a [Token], PartStop>
-    ensures value { (n : ℕ) → length tokens.now < n → Gives (λ _. map statement found.new.items) (λ rest. rest.now) result (added (map statement found.old.items) (spanned assign_tree (assigned n) tokens.now)) }
+    ensures value { (n : ℕ) → length tokens.now < n
+        → Gives (λ _. map statement found.new.items) (λ rest. rest.now) result
+        (added (map statement found.old.items) (spanned assign_tree (assigned n) tokens.now)) }
     ensures shorter { IfOk result (λ rest. length rest.now < length tokens.now) }
 {
     if is_call(tokens) {
@@ -243,14 +262,16 @@ pub(crate) fn assign<'a>(
     assign_right(alloc, found, targets, tokens, side)
 }
 
-/// Puts a check behind the others, and gives the tokens behind it.
+/// Appends an `assert`, `assume`, `coassert` or `coassume` to `found`.
 #[inline(never)]
 pub(crate) fn check<'a>(
     alloc: Global,
     found: &mut Vec<Stmt>,
     tokens: &'a [Token],
 ) -> Result<&'a [Token], PartStop>
-    ensures value { (n : ℕ) → length tokens.now < n → Gives (λ _. map statement found.new.items) (λ rest. rest.now) result (added (map statement found.old.items) (spanned check_tree (checked n) tokens.now)) }
+    ensures value { (n : ℕ) → length tokens.now < n
+        → Gives (λ _. map statement found.new.items) (λ rest. rest.now) result
+        (added (map statement found.old.items) (spanned check_tree (checked n) tokens.now)) }
     ensures shorter { IfOk result (λ rest. length rest.now < length tokens.now) }
 {
     found.reserve(1)?;
@@ -260,13 +281,15 @@ pub(crate) fn check<'a>(
     Ok(rest)
 }
 
-/// Puts `validate` or `covalidate` behind the others, and gives the tokens behind it.
+/// Appends a `validate` or `covalidate` to `found`.
 #[inline(never)]
 pub(crate) fn validate<'a>(
     found: &mut Vec<Stmt>,
     tokens: &'a [Token],
 ) -> Result<&'a [Token], PartStop>
-    ensures value { Gives (λ _. map statement found.new.items) (λ rest. rest.now) result (added (map statement found.old.items) (spanned Statement.validate (kind (by_key key_validate)) tokens.now)) }
+    ensures value { Gives (λ _. map statement found.new.items) (λ rest. rest.now) result
+        (added (map statement found.old.items)
+        (spanned Statement.validate (kind (by_key key_validate)) tokens.now)) }
     ensures shorter { IfOk result (λ rest. length rest.now < length tokens.now) }
 {
     found.reserve(1)?;
@@ -275,14 +298,16 @@ pub(crate) fn validate<'a>(
     Ok(rest)
 }
 
-/// Puts `havoc` or `cohavoc` of names behind the others, and gives the tokens behind it.
+/// Appends a `havoc` or `cohavoc` to `found`.
 #[inline(never)]
 pub(crate) fn havoc<'a>(
     alloc: Global,
     found: &mut Vec<Stmt>,
     tokens: &'a [Token],
 ) -> Result<&'a [Token], PartStop>
-    ensures value { (n : ℕ) → length tokens.now < n → Gives (λ _. map statement found.new.items) (λ rest. rest.now) result (added (map statement found.old.items) (spanned havoc_tree (havocked n) tokens.now)) }
+    ensures value { (n : ℕ) → length tokens.now < n
+        → Gives (λ _. map statement found.new.items) (λ rest. rest.now) result
+        (added (map statement found.old.items) (spanned havoc_tree (havocked n) tokens.now)) }
     ensures shorter { IfOk result (λ rest. length rest.now < length tokens.now) }
 {
     found.reserve(1)?;
@@ -292,14 +317,16 @@ pub(crate) fn havoc<'a>(
     Ok(rest)
 }
 
-/// Puts `reward` or `tick` behind the others, and gives the tokens behind it.
+/// Appends a `reward` to `found`, which `tick` begins too.
 #[inline(never)]
 pub(crate) fn reward<'a>(
     alloc: Global,
     found: &mut Vec<Stmt>,
     tokens: &'a [Token],
 ) -> Result<&'a [Token], PartStop>
-    ensures value { (n : ℕ) → length tokens.now < n → Gives (λ _. map statement found.new.items) (λ rest. rest.now) result (added (map statement found.old.items) (spanned Statement.reward (rewarded n) tokens.now)) }
+    ensures value { (n : ℕ) → length tokens.now < n
+        → Gives (λ _. map statement found.new.items) (λ rest. rest.now) result
+        (added (map statement found.old.items) (spanned Statement.reward (rewarded n) tokens.now)) }
     ensures shorter { IfOk result (λ rest. length rest.now < length tokens.now) }
 {
     found.reserve(1)?;

@@ -1,12 +1,13 @@
-//! What keys and marks begin an expression.
+//! The keywords and symbols that begin an expression.
 
-ghost use Rattle.heyvl_parse.specs.readers.ReadParts.{key_start, mark_start, quantifier_at, quantifier_of};
+ghost use Rattle.heyvl_parse.specs.readers.ReadParts.{key_start, mark_start, quantifier_at};
+ghost use Rattle.heyvl_parse.specs.readers.ReadParts.{quantifier_of};
 ghost use Rattle.std.specs.Prelude.{IfSome, MatchOption, None, Some, length, ◌<◌, ◌≡◌};
 
 use heyvl_places::Span;
 use heyvl_syntax::{Key, Mark, Token, TokenKind, UnaryOp};
 
-/// What begins with a key or mark.
+/// What a keyword or symbol begins.
 #[derive(Clone, Copy)]
 pub(crate) enum Start {
     /// `true` or `false`
@@ -53,7 +54,7 @@ pub(crate) fn mark_start(mark: Mark) -> Start
     }
 }
 
-/// True for `sup`, and false for `inf`.
+/// Returns true for `sup`, false for `inf`, and nothing for any other token.
 fn quantifier_of(kind: &TokenKind) -> Option<bool>
     ensures { result ≡ quantifier_of kind.now }
 {
@@ -69,9 +70,11 @@ fn quantifier_of(kind: &TokenKind) -> Option<bool>
     }
 }
 
-/// The `sup` or `inf` at the front with its place, and the tokens behind it.
+/// Reads `sup` or `inf`, if the first token is one, and returns its place too. The Boolean is true
+/// for `sup`.
 pub(crate) fn quantifier_at(tokens: &[Token]) -> Option<(bool, Span, &[Token])>
-    ensures value { MatchOption result (quantifier_at tokens.now ≡ None) (λ x. quantifier_at tokens.now ≡ Some (x.0, x.1, x.2.now)) }
+    ensures value { MatchOption result (quantifier_at tokens.now ≡ None)
+        (λ x. quantifier_at tokens.now ≡ Some (x.0, x.1, x.2.now)) }
     ensures shorter { IfSome result (λ x. length x.2.now < length tokens.now) }
 {
     let (token, rest) = tokens.split_first()?;

@@ -2,9 +2,14 @@
 
 ghost use Rattle.heyvl_parse.specs.readers.Combinators.{added, spanned, starts};
 ghost use Rattle.heyvl_parse.specs.readers.Results.{Gives};
-ghost use Rattle.heyvl_parse.specs.internal.Statements.{IfParts, Shortens, arm, braced, branched, if_parts, if_tree, is_opening, key_opening, kind_opening, link, loop_tree, looped, mark_opening, next_of, opening, opens, otherwise, picked, skip, stmt, stmts};
+ghost use Rattle.heyvl_parse.specs.internal.Statements.{IfParts, Shortens, arm, braced, branched};
+ghost use Rattle.heyvl_parse.specs.internal.Statements.{if_parts, if_tree, is_opening, key_opening};
+ghost use Rattle.heyvl_parse.specs.internal.Statements.{kind_opening, link, loop_tree, looped};
+ghost use Rattle.heyvl_parse.specs.internal.Statements.{mark_opening, next_of, opening, opens};
+ghost use Rattle.heyvl_parse.specs.internal.Statements.{otherwise, picked, skip, stmt, stmts};
 ghost use Rattle.heyvl_syntax.specs.Statements.{block, guarded, loop_rules, statement};
-ghost use Rattle.std.specs.Prelude.{[], IfOk, length, map, suc, vec_capacity, vec_len, ◌++◌, ◌<◌, ◌∷◌, ◌≡◌, ◌≤◌, ℕ};
+ghost use Rattle.std.specs.Prelude.{[], IfOk, length, map, suc, vec_capacity, vec_len, ◌++◌, ◌<◌};
+ghost use Rattle.std.specs.Prelude.{◌∷◌, ◌≡◌, ◌≤◌, ℕ};
 
 use crate::expressions::whole;
 use crate::lists::{put, single};
@@ -18,7 +23,7 @@ use heyvl_places::Span;
 use heyvl_syntax::{Arm, Key, Mark, Rule, Stmt, Token, TokenKind};
 use std::alloc::Global;
 
-/// Which statement begins with a token.
+/// The kind of statement that a token begins.
 #[derive(Clone, Copy)]
 pub(crate) enum Opening {
     Var,
@@ -35,7 +40,7 @@ pub(crate) enum Opening {
     Other,
 }
 
-/// What stands behind an arm: a further arm, or the statements behind the last `else`.
+/// What follows an arm of an `if`: a further arm, or the statements of the last `else`.
 #[derive(Drop)]
 pub(crate) enum Link {
     Again(Arm),
@@ -108,7 +113,7 @@ fn opens(opening: Opening) -> bool
     }
 }
 
-/// Whether a statement begins at the front.
+/// Returns true if a statement begins with the first token.
 fn starts_statement(tokens: &[Token]) -> bool
     ensures { result ≡ starts is_opening tokens.now }
 {
@@ -118,7 +123,7 @@ fn starts_statement(tokens: &[Token]) -> bool
     }
 }
 
-/// The tokens behind the semicolons at the front.
+/// Returns the tokens after the semicolons at the beginning.
 fn skip(tokens: &[Token]) -> &[Token]
     ensures value { result.now ≡ skip tokens.now }
     ensures shorter { length result.now ≤ length tokens.now }
@@ -133,11 +138,12 @@ fn skip(tokens: &[Token]) -> &[Token]
     rest
 }
 
-/// The statements of a block, with its braces.
+/// Reads the statements of a block with its braces.
 #[cycle(statements)]
 #[inline(always)]
 pub(crate) fn block(alloc: Global, tokens: &[Token]) -> Result<(Vec<Stmt>, &[Token]), PartStop>
-    ensures value { (n : ℕ) → length tokens.now ≤ n → Gives (λ x. block x.0.items) (λ x. x.1.now) result (braced (stmts n) tokens.now) }
+    ensures value { (n : ℕ) → length tokens.now ≤ n
+        → Gives (λ x. block x.0.items) (λ x. x.1.now) result (braced (stmts n) tokens.now) }
     ensures shorter { IfOk result (λ x. length x.1.now < length tokens.now) }
 {
     let (_, rest) = expect(Mark::BraceLeft, tokens)?;
@@ -146,11 +152,12 @@ pub(crate) fn block(alloc: Global, tokens: &[Token]) -> Result<(Vec<Stmt>, &[Tok
     Ok((inner, rest))
 }
 
-/// The statements at the front, as far as they go.
+/// Reads statements as long as one begins.
 #[cycle(statements)]
 #[inline(never)]
 fn statements(alloc: Global, tokens: &[Token]) -> Result<(Vec<Stmt>, &[Token]), PartStop>
-    ensures value { (n : ℕ) → length tokens.now < n → Gives (λ x. block x.0.items) (λ x. x.1.now) result (stmts n tokens.now) }
+    ensures value { (n : ℕ) → length tokens.now < n
+        → Gives (λ x. block x.0.items) (λ x. x.1.now) result (stmts n tokens.now) }
     ensures shorter { IfOk result (λ x. length x.1.now ≤ length tokens.now) }
 {
     let mut found = Vec::new(alloc);
@@ -162,7 +169,7 @@ fn statements(alloc: Global, tokens: &[Token]) -> Result<(Vec<Stmt>, &[Token]), 
     Ok((found, rest))
 }
 
-/// Puts the statement at the front behind the others, and gives the tokens behind it.
+/// Appends a statement to `found`, and returns the tokens after it.
 #[cycle(statements)]
 #[inline(always)]
 fn stmt<'a>(
@@ -170,7 +177,9 @@ fn stmt<'a>(
     found: &mut Vec<Stmt>,
     tokens: &'a [Token],
 ) -> Result<&'a [Token], PartStop>
-    ensures value { (n : ℕ) → length tokens.now ≤ n → Gives (λ _. map statement found.new.items) (λ rest. rest.now) result (added (map statement found.old.items) (stmt (suc n) (braced (stmts n)) tokens.now)) }
+    ensures value { (n : ℕ) → length tokens.now ≤ n
+        → Gives (λ _. map statement found.new.items) (λ rest. rest.now) result
+        (added (map statement found.old.items) (stmt (suc n) (braced (stmts n)) tokens.now)) }
     ensures shorter { IfOk result (λ rest. length rest.now < length tokens.now) }
 {
     match opening_at(tokens) {
@@ -186,35 +195,40 @@ fn stmt<'a>(
     }
 }
 
-/// Puts an `if` of these parts behind the others, which have room for it. In a function of its own, so that a reader that calls itself
-/// has none of it on the stack.
+/// Appends an `if` of these parts to `found`, which has room for it. It is a separate function, so
+/// that recursive readers have none of its stack.
 #[inline(never)]
 fn put_if(found: &mut Vec<Stmt>, parts: (Vec<Arm>, Vec<Stmt>), place: Span)
     requires { vec_len found.old < vec_capacity found.old }
-    ensures { map statement found.new.items ≡ map statement found.old.items ++ (if_tree (IfParts.branching (map guarded parts.0.items, block parts.1.items)) place ∷ []) }
+    ensures { map statement found.new.items ≡ map statement found.old.items
+        ++ (if_tree (IfParts.branching (map guarded parts.0.items, block parts.1.items)) place
+        ∷ []) }
 {
     found.push_reserved(Stmt::If(parts.0, parts.1, place));
 }
 
-/// Puts a choice of two blocks behind the others, which have room for it.
+/// Appends a choice of two blocks to `found`, which has room for it.
 #[inline(never)]
 fn put_pick(found: &mut Vec<Stmt>, parts: (bool, Vec<Stmt>, Vec<Stmt>), place: Span)
     requires { vec_len found.old < vec_capacity found.old }
-    ensures { map statement found.new.items ≡ map statement found.old.items ++ (if_tree (IfParts.picking (parts.0, (block parts.1.items, block parts.2.items))) place ∷ []) }
+    ensures { map statement found.new.items ≡ map statement found.old.items
+        ++ (if_tree (IfParts.picking (parts.0, (block parts.1.items, block parts.2.items))) place
+        ∷ []) }
 {
     found.push_reserved(Stmt::Pick(parts.0, parts.1, parts.2, place));
 }
 
-/// Puts a loop with these rules, this guard and this body behind the others, which have room for it.
+/// Appends a loop with its rules, its guard and its body to `found`, which has room for it.
 #[inline(never)]
 fn put_while(found: &mut Vec<Stmt>, rules: Vec<Rule>, arm: Arm, place: Span)
     requires { vec_len found.old < vec_capacity found.old }
-    ensures { map statement found.new.items ≡ map statement found.old.items ++ (loop_tree (loop_rules rules.items, guarded arm) place ∷ []) }
+    ensures { map statement found.new.items ≡ map statement found.old.items
+        ++ (loop_tree (loop_rules rules.items, guarded arm) place ∷ []) }
 {
     found.push_reserved(Stmt::While(rules, arm.guard, arm.body, place));
 }
 
-/// Puts an `if` behind the others, and gives the tokens behind it.
+/// Appends an `if` to `found`, and returns the tokens after it.
 #[cycle(statements)]
 #[inline(never)]
 fn if_at<'a>(
@@ -222,7 +236,10 @@ fn if_at<'a>(
     found: &mut Vec<Stmt>,
     tokens: &'a [Token],
 ) -> Result<&'a [Token], PartStop>
-    ensures value { (n : ℕ) → length tokens.now ≤ n → Gives (λ _. map statement found.new.items) (λ rest. rest.now) result (added (map statement found.old.items) (spanned if_tree (if_parts (suc n) (braced (stmts n))) tokens.now)) }
+    ensures value { (n : ℕ) → length tokens.now ≤ n
+        → Gives (λ _. map statement found.new.items) (λ rest. rest.now) result
+        (added (map statement found.old.items)
+        (spanned if_tree (if_parts (suc n) (braced (stmts n))) tokens.now)) }
     ensures shorter { IfOk result (λ rest. length rest.now < length tokens.now) }
 {
     found.reserve(1)?;
@@ -237,14 +254,16 @@ fn if_at<'a>(
     Ok(rest)
 }
 
-/// What stands behind the `if` of a choice of two blocks.
+/// Reads what follows the `if` of a choice of two blocks.
 #[cycle(statements)]
 #[inline(never)]
 fn picked(
     alloc: Global,
     tokens: &[Token],
 ) -> Result<((bool, Vec<Stmt>, Vec<Stmt>), &[Token]), PartStop>
-    ensures value { (n : ℕ) → length tokens.now ≤ n → Gives (λ x. (x.0.0, (block x.0.1.items, block x.0.2.items))) (λ x. x.1.now) result (picked (braced (stmts n)) tokens.now) }
+    ensures value { (n : ℕ) → length tokens.now ≤ n
+        → Gives (λ x. (x.0.0, (block x.0.1.items, block x.0.2.items))) (λ x. x.1.now) result
+        (picked (braced (stmts n)) tokens.now) }
     ensures shorter { IfOk result (λ x. length x.1.now < length tokens.now) }
 {
     let (up, rest) = pick_word(tokens)?;
@@ -253,11 +272,13 @@ fn picked(
     Ok(((up, left, right), rest))
 }
 
-/// The block behind `else`, or none where there is no `else`.
+/// Reads `else` and its block, or nothing if the first token is not `else`.
 #[cycle(statements)]
 #[inline(always)]
 fn otherwise(alloc: Global, tokens: &[Token]) -> Result<(Vec<Stmt>, &[Token]), PartStop>
-    ensures value { (n : ℕ) → length tokens.now ≤ n → Gives (λ x. block x.0.items) (λ x. x.1.now) result (otherwise (braced (stmts n)) tokens.now) }
+    ensures value { (n : ℕ) → length tokens.now ≤ n
+        → Gives (λ x. block x.0.items) (λ x. x.1.now) result
+        (otherwise (braced (stmts n)) tokens.now) }
     ensures shorter { IfOk result (λ x. length x.1.now ≤ length tokens.now) }
 {
     if starts_key(Key::Else, tokens) {
@@ -267,11 +288,13 @@ fn otherwise(alloc: Global, tokens: &[Token]) -> Result<(Vec<Stmt>, &[Token]), P
     Ok((Vec::new(alloc), tokens))
 }
 
-/// A guard and its block.
+/// Reads a guard and its block.
 #[cycle(statements)]
 #[inline(always)]
 fn arm(alloc: Global, tokens: &[Token]) -> Result<(Arm, &[Token]), PartStop>
-    ensures value { (n : ℕ) → length tokens.now ≤ n → Gives (λ x. guarded x.0) (λ x. x.1.now) result (arm (suc n) (braced (stmts n)) tokens.now) }
+    ensures value { (n : ℕ) → length tokens.now ≤ n
+        → Gives (λ x. guarded x.0) (λ x. x.1.now) result
+        (arm (suc n) (braced (stmts n)) tokens.now) }
     ensures shorter { IfOk result (λ x. length x.1.now < length tokens.now) }
 {
     let (guard, rest) = whole(alloc, tokens)?;
@@ -283,11 +306,13 @@ fn arm(alloc: Global, tokens: &[Token]) -> Result<(Arm, &[Token]), PartStop>
     Ok((found, rest))
 }
 
-/// The arms of an `if`, and what stands behind the last `else`.
+/// Reads the arms of an `if`, and the block of the last `else`.
 #[cycle(statements)]
 #[inline(never)]
 fn branched(alloc: Global, tokens: &[Token]) -> Result<((Vec<Arm>, Vec<Stmt>), &[Token]), PartStop>
-    ensures value { (n : ℕ) → length tokens.now ≤ n → Gives (λ x. (map guarded x.0.0.items, block x.0.1.items)) (λ x. x.1.now) result (branched (suc n) (braced (stmts n)) tokens.now) }
+    ensures value { (n : ℕ) → length tokens.now ≤ n
+        → Gives (λ x. (map guarded x.0.0.items, block x.0.1.items)) (λ x. x.1.now) result
+        (branched (suc n) (braced (stmts n)) tokens.now) }
     ensures shorter { IfOk result (λ x. length x.1.now < length tokens.now) }
 {
     let (first, mut rest) = arm(alloc, tokens)?;
@@ -304,11 +329,13 @@ fn branched(alloc: Global, tokens: &[Token]) -> Result<((Vec<Arm>, Vec<Stmt>), &
     }
 }
 
-/// What stands behind an arm.
+/// Reads what follows an arm.
 #[cycle(statements)]
 #[inline(always)]
 fn link_at(alloc: Global, tokens: &[Token]) -> Result<(Link, &[Token]), PartStop>
-    ensures value { (n : ℕ) → length tokens.now ≤ n → Gives (λ x. next_of x.0) (λ x. x.1.now) result (link (suc n) (braced (stmts n)) tokens.now) }
+    ensures value { (n : ℕ) → length tokens.now ≤ n
+        → Gives (λ x. next_of x.0) (λ x. x.1.now) result
+        (link (suc n) (braced (stmts n)) tokens.now) }
     ensures shorter { IfOk result (λ x. Shortens x.0 (length x.1.now) (length tokens.now)) }
 {
     if !starts_key(Key::Else, tokens) {
@@ -324,7 +351,7 @@ fn link_at(alloc: Global, tokens: &[Token]) -> Result<(Link, &[Token]), PartStop
     Ok((Link::Again(one), rest))
 }
 
-/// Puts a loop with its rules behind the others, and gives the tokens behind it.
+/// Appends a loop with its rules to `found`, and returns the tokens after it.
 #[cycle(statements)]
 #[inline(never)]
 fn looped<'a>(
@@ -332,7 +359,10 @@ fn looped<'a>(
     found: &mut Vec<Stmt>,
     tokens: &'a [Token],
 ) -> Result<&'a [Token], PartStop>
-    ensures value { (n : ℕ) → length tokens.now ≤ n → Gives (λ _. map statement found.new.items) (λ rest. rest.now) result (added (map statement found.old.items) (spanned loop_tree (looped (suc n) (braced (stmts n))) tokens.now)) }
+    ensures value { (n : ℕ) → length tokens.now ≤ n
+        → Gives (λ _. map statement found.new.items) (λ rest. rest.now) result
+        (added (map statement found.old.items)
+        (spanned loop_tree (looped (suc n) (braced (stmts n))) tokens.now)) }
     ensures shorter { IfOk result (λ rest. length rest.now < length tokens.now) }
 {
     found.reserve(1)?;

@@ -5,11 +5,11 @@ ghost use Rattle.std.specs.Prelude.{◌≡◌, alloc_error};
 
 use std::alloc::{AllocError, AllocFailed};
 
-/// Why tokens at the front of others were not read.
+/// Why a reader has not read what it reads.
 #[derive(Drop)]
 pub enum PartStop {
-    /// A token at which nothing wanted goes on, or the end of the tokens. It is told by how many tokens are left from it
-    /// on: 0 at the end.
+    /// An error at the first token with which nothing goes on, or at the end of the tokens. It is
+    /// the number of tokens from there on: 0 at the end.
     Fault(usize),
     /// Memory ran out.
     Memory(AllocError),

@@ -1,7 +1,8 @@
-//! Ways to take the token at the front of others.
+//! The readers of single tokens.
 
 ghost use Rattle.heyvl_parse.specs.readers.Combinators.{is_key, is_word, kind, sign, starts};
-ghost use Rattle.heyvl_parse.specs.readers.ReadParts.{expect, given, is_mark, next, type_name, type_of, word};
+ghost use Rattle.heyvl_parse.specs.readers.ReadParts.{expect, given, is_mark, next, type_name};
+ghost use Rattle.heyvl_parse.specs.readers.ReadParts.{type_of, word};
 ghost use Rattle.heyvl_parse.specs.readers.Results.{Gives};
 ghost use Rattle.heyvl_parse.specs.internal.Statements.{by_key};
 ghost use Rattle.std.specs.Prelude.{IfOk, Some, length, ◌+◌, ◌<◌, ◌≡◌};
@@ -11,7 +12,7 @@ use heyvl_places::{Name, Span};
 use heyvl_syntax::{Key, Mark, Token, TokenKind, TypeName};
 use std::alloc::Global;
 
-/// The token at the front, and the tokens behind it.
+/// Reads one token.
 pub fn next(tokens: &[Token]) -> Result<(&Token, &[Token]), PartStop>
     ensures value { Gives (λ x. x.0.now) (λ x. x.1.now) result (next tokens.now) }
     ensures shorter { IfOk result (λ x. length tokens.now ≡ length x.1.now + 1) }
@@ -33,7 +34,7 @@ pub(crate) fn is_mark(mark: Mark, kind: &TokenKind) -> bool
     }
 }
 
-/// The place of this mark, which has to stand at the front, and the tokens behind it.
+/// Reads the symbol `mark`, and returns its place.
 pub fn expect(mark: Mark, tokens: &[Token]) -> Result<(Span, &[Token]), PartStop>
     ensures value { Gives (λ x. x.0) (λ x. x.1.now) result (expect mark tokens.now) }
     ensures shorter { IfOk result (λ x. length x.1.now < length tokens.now) }
@@ -46,7 +47,7 @@ pub fn expect(mark: Mark, tokens: &[Token]) -> Result<(Span, &[Token]), PartStop
     }
 }
 
-/// The word at the front, and the tokens behind it.
+/// Reads an identifier.
 #[inline(always)]
 pub fn word(alloc: Global, tokens: &[Token]) -> Result<(Name, &[Token]), PartStop>
     ensures value { Gives (λ x. x.0) (λ x. x.1.now) result (word tokens.now) }
@@ -61,7 +62,7 @@ pub fn word(alloc: Global, tokens: &[Token]) -> Result<(Name, &[Token]), PartSto
     }
 }
 
-/// The type that a token names.
+/// Returns the type that a token names, if it names one.
 fn type_of(kind: &TokenKind) -> Option<TypeName>
     ensures { result ≡ type_of kind.now }
 {
@@ -81,7 +82,7 @@ fn type_of(kind: &TokenKind) -> Option<TypeName>
     }
 }
 
-/// The type at the front, and the tokens behind it.
+/// Reads the name of a type.
 pub(crate) fn type_name(tokens: &[Token]) -> Result<(TypeName, &[Token]), PartStop>
     ensures value { Gives (λ x. x.0) (λ x. x.1.now) result (type_name tokens.now) }
     ensures shorter { IfOk result (λ x. length x.1.now < length tokens.now) }
@@ -101,7 +102,7 @@ pub(crate) fn is_key(key: Key, kind: &TokenKind) -> bool
     }
 }
 
-/// The key at the front, and the tokens behind it.
+/// Reads a keyword.
 pub(crate) fn key_at(tokens: &[Token]) -> Result<(Key, &[Token]), PartStop>
     ensures value { Gives (λ x. x.0) (λ x. x.1.now) result (kind (by_key Some) tokens.now) }
     ensures shorter { IfOk result (λ x. length x.1.now < length tokens.now) }
@@ -115,7 +116,8 @@ pub(crate) fn key_at(tokens: &[Token]) -> Result<(Key, &[Token]), PartStop>
     }
 }
 
-/// What the token at the front is known to say, with the tokens behind it, or a fault at that token.
+/// Returns what the first token of `tokens` holds and the tokens after it, or an error at this
+/// token if it holds nothing.
 pub(crate) fn known<'a, T>(
     said: Option<T>,
     tokens: &[Token],
@@ -130,7 +132,7 @@ pub(crate) fn known<'a, T>(
     }
 }
 
-/// The place of this key, which has to stand at the front, and the tokens behind it.
+/// Reads the keyword `key`, and returns its place.
 pub fn expect_key(key: Key, tokens: &[Token]) -> Result<(Span, &[Token]), PartStop>
     ensures value { Gives (λ x. x.0) (λ x. x.1.now) result (sign (is_key key) tokens.now) }
     ensures shorter { IfOk result (λ x. length x.1.now < length tokens.now) }
@@ -143,7 +145,7 @@ pub fn expect_key(key: Key, tokens: &[Token]) -> Result<(Span, &[Token]), PartSt
     }
 }
 
-/// Whether this mark stands at the front.
+/// Returns true if the first token is the symbol `mark`.
 pub fn starts_mark(mark: Mark, tokens: &[Token]) -> bool
     ensures { result ≡ starts (is_mark mark) tokens.now }
 {
@@ -153,7 +155,7 @@ pub fn starts_mark(mark: Mark, tokens: &[Token]) -> bool
     }
 }
 
-/// Whether this key stands at the front.
+/// Returns true if the first token is the keyword `key`.
 pub fn starts_key(key: Key, tokens: &[Token]) -> bool
     ensures { result ≡ starts (is_key key) tokens.now }
 {
@@ -174,7 +176,7 @@ fn is_word(name: &[u8], kind: &TokenKind) -> bool
     }
 }
 
-/// The place of this word, which has to stand at the front, and the tokens behind it.
+/// Reads the identifier `name`, and returns its place.
 pub(crate) fn expect_word<'a>(
     name: &[u8],
     tokens: &'a [Token],

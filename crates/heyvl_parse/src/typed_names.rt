@@ -13,12 +13,13 @@ use heyvl_places::Name;
 use heyvl_syntax::{Mark, Token, TypeName};
 use std::alloc::Global;
 
-/// A name, `:` and the type of the name.
+/// Reads a name, `:` and the type of the name.
 pub(crate) fn typed_name(
     alloc: Global,
     tokens: &[Token],
 ) -> Result<((Name, TypeName), &[Token]), PartStop>
-    ensures value { Gives (λ x. x.0) (λ x. x.1.now) result (pair word (lead (is_mark marks.Colon) type_name) tokens.now) }
+    ensures value { Gives (λ x. x.0) (λ x. x.1.now) result
+        (pair word (lead (is_mark marks.Colon) type_name) tokens.now) }
     ensures shorter { IfOk result (λ x. length x.1.now < length tokens.now) }
 {
     let (name, rest) = word(alloc, tokens)?;
