@@ -5,6 +5,6 @@ use Rattle.heyvl_syntax.specs.Expressions.{Expression}
 use Rattle.heyvl_syntax.specs.declared.tokens.Token.{Token}
 use Rattle.std.specs.Prelude.{List, ℕ}
 
--- expr, with nothing behind it
+-- `expr`, after which no token may be left.
 abbrev pub only_expr : ℕ → List Token → Read Expression
 only_expr n ts = expr n ts >>= ended

@@ -1,4 +1,4 @@
--- Reading whole files, where a reader of blocks is given.
+-- Reading whole files, with a given reader of blocks.
 use Rattle.heyvl_parse.specs.readers.Combinators.{each, either, ended, is_there}
 use Rattle.heyvl_parse.specs.internal.Procedures.{proc_of, procedure}
 use Rattle.heyvl_parse.specs.readers.ReadParts.{Read, is_mark, ◌>>=◌}
@@ -12,14 +12,14 @@ use Rattle.std.specs.Prelude.{Bool, List, ℕ}
 abbrev pub is_proc : TokenKind → Bool
 is_proc k = is_there (proc_of k)
 
--- Whether a procedure begins with a token.
+-- Whether a token of this kind begins a procedure.
 abbrev pub begins : TokenKind → Bool
 begins = either (is_mark marks.AtSign) is_proc
 
--- proc*, as far as it goes.
+-- `proc*`, as long as a procedure begins.
 abbrev pub procs : (List Token → Read Block) → ℕ → List Token → Read (List Procedure)
 procs block n ts = each begins (procedure block n) n ts
 
--- file
+-- `file`
 abbrev pub file : (List Token → Read Block) → ℕ → List Token → Read (List Procedure)
 file block n ts = procs block n ts >>= ended

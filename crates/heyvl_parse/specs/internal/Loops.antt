@@ -37,24 +37,27 @@ kind_rule (kinds.Key k) = starts_as.Other
 kind_rule (kinds.Number n) = starts_as.Other
 kind_rule (kinds.Mark m) = starts_as.Other
 
--- Which rule's word stands at the front.
+-- The rule whose identifier is the first token.
 abbrev pub rule_start : List Token → RuleStart
 rule_start [] = starts_as.Other
 rule_start (t ∷ ts) = kind_rule t.kind
 
 abbrev pub rule_by : ℕ → RuleStart → List Token → Read RuleParts
-rule_by n starts_as.Invariant ts = mapped RuleParts.invariant (lead (is_word (codes "invariant")) (enclosed_expr n)) ts
-rule_by n starts_as.KInduction ts = mapped RuleParts.k_induction (lead (is_word (codes "k_induction")) (two n)) ts
-rule_by n starts_as.Ranking ts = mapped RuleParts.ranking (lead (is_word (codes "ranking")) (two n)) ts
+rule_by n starts_as.Invariant ts =
+    mapped RuleParts.invariant (lead (is_word (codes "invariant")) (enclosed_expr n)) ts
+rule_by n starts_as.KInduction ts =
+    mapped RuleParts.k_induction (lead (is_word (codes "k_induction")) (two n)) ts
+rule_by n starts_as.Ranking ts =
+    mapped RuleParts.ranking (lead (is_word (codes "ranking")) (two n)) ts
 rule_by n starts_as.Other ts = refuse ts
 
 abbrev pub rule_parts : ℕ → List Token → Read RuleParts
 rule_parts n ts = rule_by n (rule_start ts) ts
 
--- rule
+-- `rule`
 abbrev pub rule : ℕ → List Token → Read LoopRule
 rule n ts = spanned rule_tree (lead (is_mark marks.AtSign) (rule_parts n)) ts
 
--- rule*
+-- `rule*`
 abbrev pub rules : ℕ → List Token → Read (List LoopRule)
 rules n ts = each (is_mark marks.AtSign) (rule n) n ts

@@ -1,5 +1,6 @@
--- Reading procedures, where a reader of blocks is given.
-use Rattle.heyvl_parse.specs.readers.Combinators.{each, is_there, kind, lead, list0, optional, spanned, trail}
+-- Reading procedures, with a given reader of blocks.
+use Rattle.heyvl_parse.specs.readers.Combinators.{each, is_there, kind, lead, list0, optional}
+use Rattle.heyvl_parse.specs.readers.Combinators.{spanned, trail}
 use Rattle.heyvl_parse.specs.readers.ReadParts.{Read, expr, is_mark, mapped, pair, type_name, word}
 use Rattle.heyvl_places.specs.declared.spans.Span.{Span}
 use Rattle.heyvl_syntax.specs.Expressions.{Expression}
@@ -25,14 +26,14 @@ word_note w =
     (cond (pointwise nat_eq w (codes "wp")) (Some notes.Wp)
     (cond (pointwise nat_eq w (codes "ert")) (Some notes.Ert) None))
 
--- The note that a word tells.
+-- The note that an identifier names.
 abbrev pub note_of : TokenKind → Option Note
 note_of (kinds.Word w) = word_note w
 note_of (kinds.Key k) = None
 note_of (kinds.Number n) = None
 note_of (kinds.Mark m) = None
 
--- note
+-- `note`
 abbrev pub note : List Token → Read Note
 note ts = lead (is_mark marks.AtSign) (kind note_of) ts
 
@@ -48,22 +49,22 @@ proc_of (kinds.Word w) = None
 proc_of (kinds.Number n) = None
 proc_of (kinds.Mark m) = None
 
--- note? ('proc'|'coproc')
+-- `note? ('proc'|'coproc')`
 abbrev pub opening : List Token → Read (Option Note × Bool)
 opening ts = pair (optional (is_mark marks.AtSign) note) (kind proc_of) ts
 
 abbrev pub param_tree : List ℕ × TypeName → Span → Param
 param_tree p s = record { name = p.0; ty = p.1; span = s }
 
--- param
+-- `param`
 abbrev pub param : List Token → Read Param
 param ts = spanned param_tree (pair word (lead (is_mark marks.Colon) type_name)) ts
 
--- '(' list0(param) ')'
+-- `'(' list0(param) ')'`
 abbrev pub params : ℕ → List Token → Read (List Param)
 params n ts = lead (is_mark marks.ParenLeft) (trail (list0 param n) (is_mark marks.ParenRight)) ts
 
--- W '(' list0(param) ')' '->' '(' list0(param) ')'
+-- `W '(' list0(param) ')' '->' '(' list0(param) ')'`
 abbrev pub signature : ℕ → List Token → Read (List ℕ × (List Param × List Param))
 signature n ts = pair word (pair (params n) (lead (is_mark marks.Arrow) (params n))) ts
 
@@ -89,27 +90,29 @@ clause_by false a = Clause.pre a
 abbrev pub clause_tree : Bool × Expression → Clause
 clause_tree p = clause_by p.0 p.1
 
--- clause
+-- `clause`
 abbrev pub clause : ℕ → List Token → Read Clause
 clause n ts = mapped clause_tree (pair (kind clause_of) (expr n)) ts
 
--- clause*
+-- `clause*`
 abbrev pub clauses : ℕ → List Token → Read (List Clause)
 clauses n ts = each is_clause (clause n) n ts
 
--- The pre and the post clauses of clauses.
+-- The pre clauses of `cs`, and its post clauses.
 abbrev pub divide : List Clause → List Expression × List Expression
 divide cs = (pres cs, posts cs)
 
 abbrev pub divided : ℕ → List Token → Read (List Expression × List Expression)
 divided n ts = mapped divide (clauses n) ts
 
--- clause* block?
-abbrev pub promise : (List Token → Read Block) → ℕ → List Token → Read ((List Expression × List Expression) × Option Block)
+-- `clause* block?`
+abbrev pub promise : (List Token → Read Block) → ℕ → List Token
+    → Read ((List Expression × List Expression) × Option Block)
 promise block n ts = pair (divided n) (optional (is_mark marks.BraceLeft) block) ts
 
 abbrev pub Parts : Type 0
-Parts = (Option Note × Bool) × ((List ℕ × (List Param × List Param)) × ((List Expression × List Expression) × Option Block))
+Parts = (Option Note × Bool)
+    × ((List ℕ × (List Param × List Param)) × ((List Expression × List Expression) × Option Block))
 
 abbrev pub procedure_tree : Parts → Span → Procedure
 procedure_tree p s = record {
@@ -124,6 +127,7 @@ procedure_tree p s = record {
   span = s;
 }
 
--- proc
+-- `proc`
 abbrev pub procedure : (List Token → Read Block) → ℕ → List Token → Read Procedure
-procedure block n ts = spanned procedure_tree (pair opening (pair (signature n) (promise block n))) ts
+procedure block n ts = spanned procedure_tree
+    (pair opening (pair (signature n) (promise block n))) ts

@@ -16,9 +16,10 @@ use Rattle.std.specs.Prelude.{Bool, List, [], false, true, ◌∷◌, ℕ}
 abbrev pub expressions : ℕ → List Token → Read (List Expression)
 expressions n ts = list (expr n) n ts
 
--- What stands in the parentheses of a call, and the one that closes them.
+-- `'(' list0(expr) ')'`
 abbrev pub arguments : ℕ → List Token → Read (List Expression)
-arguments n ts = lead (is_mark marks.ParenLeft) (trail (list0 (expr n) n) (is_mark marks.ParenRight)) ts
+arguments n ts = lead (is_mark marks.ParenLeft)
+    (trail (list0 (expr n) n) (is_mark marks.ParenRight)) ts
 
 abbrev pub call : ℕ → List Token → Read (List ℕ × List Expression)
 call n ts = pair word (arguments n) ts
@@ -26,16 +27,18 @@ call n ts = pair word (arguments n) ts
 abbrev pub enclosed_expr : ℕ → List Token → Read Expression
 enclosed_expr n ts = lead (is_mark marks.ParenLeft) (trail (expr n) (is_mark marks.ParenRight)) ts
 
--- ( a , b )
+-- `'(' expr ',' expr ')'`
 abbrev pub two : ℕ → List Token → Read (Expression × Expression)
-two n ts = lead (is_mark marks.ParenLeft) (pair (expr n) (lead (is_mark marks.Comma) (trail (expr n) (is_mark marks.ParenRight)))) ts
+two n ts = lead (is_mark marks.ParenLeft)
+    (pair (expr n) (lead (is_mark marks.Comma) (trail (expr n) (is_mark marks.ParenRight)))) ts
 
--- expr ':' expr
+-- `expr ':' expr`
 abbrev pub weighted : ℕ → List Token → Read (Expression × Expression)
 weighted n ts = pair (expr n) (lead (is_mark marks.Colon) (expr n)) ts
 
 abbrev pub weights : ℕ → List Token → Read (List (Expression × Expression))
-weights n ts = lead (is_mark marks.BraceLeft) (trail (list (weighted n) n) (is_mark marks.BraceRight)) ts
+weights n ts = lead (is_mark marks.BraceLeft)
+    (trail (list (weighted n) n) (is_mark marks.BraceRight)) ts
 
 abbrev pub is_a_word : TokenKind → Bool
 is_a_word (kinds.Word w) = true
@@ -47,7 +50,7 @@ abbrev pub called_behind : Bool → List Token → Bool
 called_behind false ts = false
 called_behind true ts = starts (is_mark marks.ParenLeft) ts
 
--- A word and then '('.
+-- Whether the tokens begin with an identifier and `(`.
 abbrev pub is_call : List Token → Bool
 is_call [] = false
 is_call (t ∷ ts) = called_behind (is_a_word t.kind) ts
@@ -96,6 +99,6 @@ abbrev pub right_if : ℕ → Bool → List Token → Read RightSide
 right_if n true ts = mapped call_tree (call n) ts
 right_if n false ts = no_call n ts
 
--- right
+-- `right`
 abbrev pub right : ℕ → List Token → Read RightSide
 right n ts = right_if n (is_call ts) ts

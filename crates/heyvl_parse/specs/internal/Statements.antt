@@ -1,8 +1,10 @@
 -- Reading statements and blocks.
 use Prim.Native.Nat.{suc, zero}
-use Rattle.heyvl_parse.specs.readers.Combinators.{each, either, is_key, is_there, kind, lead, list, optional, refuse, spanned, starts, taken, trail}
+use Rattle.heyvl_parse.specs.readers.Combinators.{each, either, is_key, is_there, kind, lead, list}
+use Rattle.heyvl_parse.specs.readers.Combinators.{optional, refuse, spanned, starts, taken, trail}
 use Rattle.heyvl_parse.specs.internal.Loops.{rules}
-use Rattle.heyvl_parse.specs.readers.ReadParts.{Bad, Got, Out, Read, expr, is_mark, mapped, pair, type_name, word, ◌>>=◌}
+use Rattle.heyvl_parse.specs.readers.ReadParts.{Bad, Got, Out, Read, expr, is_mark, mapped, pair}
+use Rattle.heyvl_parse.specs.readers.ReadParts.{type_name, word, ◌>>=◌}
 use Rattle.heyvl_parse.specs.internal.Rights.{call, call_tree, is_call, right}
 use Rattle.heyvl_parse.specs.declared.statements.Link.TheVariants as steps
 use Rattle.heyvl_parse.specs.declared.statements.Link.{Link}
@@ -10,7 +12,8 @@ use Rattle.heyvl_parse.specs.declared.statements.Opening.TheVariants as openings
 use Rattle.heyvl_parse.specs.declared.statements.Opening.{Opening}
 use Rattle.heyvl_syntax.specs.Expressions.{Expression}
 use Rattle.heyvl_syntax.specs.Productions.{extent}
-use Rattle.heyvl_syntax.specs.Statements.{Block, LoopRule, RightSide, Statement, arms_of, block, block_of, guarded}
+use Rattle.heyvl_syntax.specs.Statements.{Block, LoopRule, RightSide, Statement, arms_of, block}
+use Rattle.heyvl_syntax.specs.Statements.{block_of, guarded}
 use Rattle.heyvl_syntax.specs.declared.keys.Key.TheVariants as keys
 use Rattle.heyvl_syntax.specs.declared.keys.Key.{Key}
 use Rattle.heyvl_syntax.specs.declared.marks.Mark.TheVariants as marks
@@ -22,15 +25,18 @@ use Rattle.heyvl_syntax.specs.declared.tokens.Token.{Token}
 use Rattle.heyvl_syntax.specs.declared.tokens.TokenKind.TheVariants as kinds
 use Rattle.heyvl_syntax.specs.declared.tokens.TokenKind.{TokenKind}
 use Rattle.heyvl_syntax.specs.declared.types.TypeName.{TypeName}
-use Rattle.std.specs.Prelude.{Bool, List, None, Option, Some, [], cond, false, true, ◌++◌, ◌<◌, ◌∷◌, ◌≤◌, ℕ}
+use Rattle.std.specs.Prelude.{Bool, List, None, Option, Some, [], cond, false, true, ◌++◌, ◌<◌, ◌∷◌}
+use Rattle.std.specs.Prelude.{◌≤◌, ℕ}
 
--- '=' right
+-- `'=' right`
 abbrev pub given : ℕ → List Token → Read RightSide
 given n ts = lead (is_mark marks.Assign) (right n) ts
 
--- 'var' W ':' type ('=' right)?
+-- `'var' W ':' type ('=' right)?`
 abbrev pub declared : ℕ → List Token → Read (List ℕ × (TypeName × Option RightSide))
-declared n ts = lead (is_key keys.Var) (pair word (lead (is_mark marks.Colon) (pair type_name (optional (is_mark marks.Assign) (given n))))) ts
+declared n ts = lead (is_key keys.Var)
+    (pair word (lead (is_mark marks.Colon)
+    (pair type_name (optional (is_mark marks.Assign) (given n))))) ts
 
 abbrev pub var_tree : List ℕ × (TypeName × Option RightSide) → Span → Statement
 var_tree p s = Statement.var p.0 p.1.0 p.1.1 s
@@ -42,14 +48,15 @@ abbrev pub assigned_if : ℕ → Bool → List Token → Read (List (List ℕ) �
 assigned_if n true ts = mapped alone (call n) ts
 assigned_if n false ts = pair (list word n) (given n) ts
 
--- list(W) '=' right  |  W '(' list0(expr) ')'
+-- `list(W) '=' right  |  W '(' list0(expr) ')'`
 abbrev pub assigned : ℕ → List Token → Read (List (List ℕ) × RightSide)
 assigned n ts = assigned_if n (is_call ts) ts
 
 abbrev pub assign_tree : List (List ℕ) × RightSide → Span → Statement
 assign_tree p s = Statement.assign p.0 p.1 s
 
--- An assignment of what was read to these targets, at the place of what stands before the rest.
+-- The assignment of the right side that `read` gives to `targets`. Its place reaches from the first
+-- of the tokens `ts` to the last one before the rest of `read`.
 abbrev pub valued : List (List ℕ) → List Token → Read RightSide → Read Statement
 valued targets ts read = read >>= λ x r. Got (assign_tree (targets, x) (extent (taken ts r))) r
 
@@ -75,7 +82,7 @@ key_pick keys.Cap = Some false
 key_pick keys.Cup = Some true
 key_pick _ = None
 
--- What a key is, where the kind is a key.
+-- The value of `of` at a keyword; nothing for any other token.
 abbrev pub by_key : {A : Type 0} → (Key → Option A) → TokenKind → Option A
 by_key of (kinds.Key k) = of k
 by_key of (kinds.Word w) = None
@@ -97,18 +104,18 @@ havoc_tree p s = Statement.havoc p.0 p.1 s
 abbrev pub is_reward : TokenKind → Bool
 is_reward k = either (is_key keys.Reward) (is_key keys.Tick) k
 
--- ('reward' | 'tick') expr
+-- `('reward'|'tick') expr`
 abbrev pub rewarded : ℕ → List Token → Read Expression
 rewarded n ts = lead is_reward (expr n) ts
 
--- Reads a block with its braces.
+-- A reader of blocks with their braces.
 abbrev pub BlockReader : Type 0
 BlockReader = List Token → Read Block
 
 abbrev pub braced : BlockReader → BlockReader
 braced inside ts = lead (is_mark marks.BraceLeft) (trail inside (is_mark marks.BraceRight)) ts
 
--- What stands behind an arm: a further arm, or the else.
+-- What follows an arm of an `if`: a further arm, or the block of the last `else`.
 pub data Next : Type 0 where
   again : Expression × Block → Next
   last : Block → Next
@@ -142,7 +149,7 @@ abbrev pub further : (List Token → Read Links) → Next → List Token → Rea
 further others (Next.last b) r = Got ([], b) r
 further others (Next.again a) r = fronted (a ∷ []) (others r)
 
--- ('else' 'if' expr block)* ('else' block)?
+-- `('else' 'if' expr block)* ('else' block)?`
 abbrev pub links : ℕ → BlockReader → ℕ → List Token → Read Links
 links n block zero ts = Out
 links n block (suc k) ts = link n block ts >>= further (links n block k)
@@ -151,11 +158,11 @@ abbrev pub else_if : BlockReader → Bool → List Token → Read Block
 else_if block true ts = lead (is_key keys.Else) block ts
 else_if block false ts = Got Block.done ts
 
--- ('else' block)?
+-- `('else' block)?`
 abbrev pub otherwise : BlockReader → List Token → Read Block
 otherwise block ts = else_if block (starts (is_key keys.Else) ts) ts
 
--- What stands behind `if`.
+-- What follows the keyword `if`: arms, or a choice of two blocks.
 pub data IfParts : Type 0 where
   branching : Links → IfParts
   picking : Bool × (Block × Block) → IfParts
@@ -164,7 +171,7 @@ abbrev pub if_tree : IfParts → Span → Statement
 if_tree (IfParts.branching p) s = Statement.branch (arms_of p.0) p.1 s
 if_tree (IfParts.picking p) s = Statement.pick p.0 p.1.0 p.1.1 s
 
--- expr block ('else' 'if' expr block)* ('else' block)?
+-- `expr block ('else' 'if' expr block)* ('else' block)?`
 abbrev pub branched : ℕ → BlockReader → List Token → Read Links
 branched n block ts = arm n block ts >>= λ a r. fronted (a ∷ []) (links n block n r)
 
@@ -187,7 +194,7 @@ if_parts n block ts = lead (is_key keys.If) (behind_if n block) ts
 abbrev pub Looped : Type 0
 Looped = List LoopRule × (Expression × Block)
 
--- rule* 'while' expr block
+-- `rule* 'while' expr block`
 abbrev pub looped : ℕ → BlockReader → List Token → Read Looped
 looped n block ts = pair (rules n) (lead (is_key keys.While) (pair (expr n) block)) ts
 
@@ -214,7 +221,7 @@ abbrev pub mark_opening : Mark → Opening
 mark_opening marks.AtSign = openings.Loop
 mark_opening _ = openings.Other
 
--- Which statement begins with a token.
+-- The kind of statement that a token begins.
 abbrev pub kind_opening : TokenKind → Opening
 kind_opening (kinds.Word w) = openings.Assign
 kind_opening (kinds.Key k) = key_opening k
@@ -250,7 +257,7 @@ stmt_by n block openings.If ts = spanned if_tree (if_parts n block) ts
 stmt_by n block openings.Loop ts = spanned loop_tree (looped n block) ts
 stmt_by n block openings.Other ts = refuse ts
 
--- stmt
+-- `stmt`
 abbrev pub stmt : ℕ → BlockReader → List Token → Read Statement
 stmt n block ts = stmt_by n block (opening ts) ts
 
@@ -258,11 +265,11 @@ abbrev pub skip : List Token → List Token
 skip [] = []
 skip (t ∷ ts) = cond (is_mark marks.Semi t.kind) (skip ts) (t ∷ ts)
 
--- stmt ';'*
+-- `stmt ';'*`
 abbrev pub entry : ℕ → BlockReader → List Token → Read Statement
 entry n block ts = stmt n block ts >>= λ x r. Got x (skip r)
 
--- (stmt ';'*)*
+-- `(stmt ';'*)*`
 abbrev pub stmts : ℕ → BlockReader
 stmts zero ts = Out
 stmts (suc m) ts = mapped block_of (each is_opening (entry (suc m) (braced (stmts m))) (suc m)) ts
@@ -271,7 +278,8 @@ abbrev pub next_of : Link → Next
 next_of (steps.Again a) = Next.again (guarded a)
 next_of (steps.Last b) = Next.last (block b.items)
 
--- An arm takes tokens, and the end of the arms may take none.
+-- `Shortens link rest all`: `rest` is less than `all` after an arm, which takes tokens, and at most
+-- `all` after the end of the arms, which may take none.
 abbrev pub Shortens : Link → ℕ → ℕ → Type 0
 Shortens (steps.Again a) rest all = rest < all
 Shortens (steps.Last b) rest all = rest ≤ all
