@@ -44,7 +44,7 @@ local_skips x (u ∷ us) = pick (is_mark marks.Semi u.kind) refl (local_skips x 
     pick true e (text, h, move) = (u ∷ text, ap (λ z. u ∷ z) h, λ t r0 r' eq. rw e (move t r0 r' eq))
     pick false e rest = ([], refl, λ t r0 r' eq. let same : u ≡ t = cc in rw (subst (λ (z : Token). is_mark marks.Semi z.kind ≡ false) same e) refl)
 
--- stmt ';'*
+-- `stmt ';'*`
 abbrev IsEntry : Statement → List Token → Type 0
 IsEntry x = IsStmt x then AreSemis
 

@@ -1,4 +1,4 @@
--- The laws of the readers of what holds blocks: the arms of an `if`, and loops.
+-- The laws of the readers of arms and loops.
 use Rattle.heyvl_parse.proofs.KeyLaws.{led_starts, pick_laws}
 use Rattle.heyvl_parse.proofs.Lawful.{Both, Laws, chosen_local, laws_same, lead_laws, mapped_laws, pair_free, pair_laws, some_both, starts_front, starts_same}
 use Rattle.heyvl_parse.proofs.Local.{Local, LocalAt, local_bind, local_got, local_mapped}
@@ -22,7 +22,6 @@ use Rattle.heyvl_syntax.specs.declared.tokens.TokenKind.TheVariants as kinds
 use Rattle.std.proofs.Common.{Bool, List, [], ap, append_assoc, arith, false, inl, inr, length, length-append, refl, subst, suc, sym, true, zero, ◌++◌, ◌<◌, ◌∙◌, ◌∷◌, ◌≡◌, ◌≤◌, ℕ}
 use Rattle.std.proofs.lemmas.List.{append-nil}
 
--- Parts behind one another, put together otherwise.
 pub then_back : (P Q R : List Token → Type 0) (ts : List Token) → (P then Q then R) ts → ((P then Q) then R) ts
 then_back P Q R ts (us, back, p, (vs, ys, q, r, d), e) = (us ++ vs, ys, (us, vs, p, q, refl), r, e ∙ ap (λ z. us ++ z) d ∙ sym (append_assoc us vs ys))
 
@@ -59,7 +58,7 @@ some_arm = some_both some_full some_block
 some_other : Some_text IsOther
 some_other = (Block.done, [], inr (refl, refl))
 
--- The laws of what holds blocks, from those of blocks.
+-- The laws of statements with blocks, from those of blocks.
 module _ (n : ℕ) (block : BlockReader) (lb : Laws n IsBlock no_kind block) where
   arm_laws : Laws n IsArm no_kind (arm n block)
   arm_laws = pair_laws (expr_laws n) lb some_block (λ y text rest h quiet. ended_by _ is_operator (kinds.Mark marks.BraceLeft) refl text rest h)
@@ -147,7 +146,6 @@ module _ (n : ℕ) (block : BlockReader) (lb : Laws n IsBlock no_kind block) whe
   complete_last b text rest (inl h) len quiet = at_else (Next.last b) text rest h len
   complete_last b text rest (inr (same, none)) len quiet = rw (none, quiet, same) refl
 
-  -- An arm and what stands behind it.
   further_arm : (a : Expression × Block) (p : Links) (text z : List Token) → IsNext (Next.again a) text → IsLinks p z → IsLinks (a ∷ p.0, p.1) (text ++ z)
   further_arm a p text z h (front, back, arms, other, e) =
       (text ++ front, back, spelled, other, ap (λ w. text ++ w) e ∙ sym (append_assoc text front back))

@@ -1,4 +1,4 @@
--- The loop over the arms of an if.
+-- The loop over the arms of an `if`.
 use Rattle.heyvl_parse.specs.readers.ReadParts.{Bad, Got, Out, Read}
 use Rattle.heyvl_parse.specs.readers.Results.{Fails}
 use Rattle.heyvl_parse.specs.internal.Statements.{BlockReader, Links, Next, arm, branched, fronted, link, links}
@@ -15,7 +15,7 @@ fronted_twice a b (Got x r) = ap (λ z. Got (z, x.1) r) (sym (append_assoc a b x
 fronted_twice a b (Bad r) = refl
 fronted_twice a b Out = refl
 
--- With `before` in front, what is left of the arms is all that is to be read.
+-- The arms `before` and those that are still to be read are all arms.
 abbrev pub Left : ℕ → BlockReader → Read Links → List (Expression × Block) → List Token → Type 0
 Left n block all before ts = (k : ℕ) × (length ts < k) × (all ≡ fronted before (links n block k ts))
 

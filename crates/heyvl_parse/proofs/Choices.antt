@@ -1,4 +1,4 @@
--- A choice, read as three expressions with the marks that close them.
+-- An `ite`, read as three expressions with the symbols that close them.
 use Rattle.heyvl_parse.specs.readers.ReadParts.{Bad, Got, Out, Read, Reader, Whole, choice, choice_tree, enclosed, expect, mapped, pair, ◌>>=◌}
 use Rattle.heyvl_places.specs.declared.spans.Span.{Span}
 use Rattle.heyvl_syntax.specs.Expressions.{Expression}
@@ -6,11 +6,9 @@ use Rattle.heyvl_syntax.specs.declared.marks.Mark.TheVariants as marks
 use Rattle.heyvl_syntax.specs.declared.tokens.Token.{Token}
 use Rattle.std.proofs.Common.{List, refl, ◌∙◌, ◌≡◌}
 
--- What was read, with what stands before it.
 abbrev tied : {A B : Type 0} → A → Read B → Read (A × B)
 tied a m = m >>= λ y r. Got (a, y) r
 
--- An expression, `,` and what stands behind it.
 behind_comma : {C D : Type 0} (self : Reader) (h : Expression × (Span × C) → D) (g : List Token → Read C) (ts : List Token) → mapped h (pair (self Whole) (pair (expect marks.Comma) g)) ts ≡ (enclosed self marks.Comma ts >>= λ a r. mapped (λ y. h (a.0, (a.1, y))) g r)
 behind_comma {C} {D} self h g ts = first (self Whole ts)
   where
@@ -29,7 +27,6 @@ behind_comma {C} {D} self h g ts = first (self Whole ts)
     first (Bad r) = refl
     first Out = refl
 
--- The parts of a choice, each with the mark that closes it.
 abbrev pub closed_choice : Reader → Span → List Token → Read Expression
 closed_choice self place ts =
     expect marks.ParenLeft ts >>= λ front r.

@@ -1,4 +1,4 @@
--- The loop over the clauses of a procedure, which keeps the pre and the post clauses apart.
+-- The loop over the clauses of a procedure, which separates the pre clauses from the post clauses.
 use Rattle.heyvl_parse.proofs.EachLoop.{Rest, loop_done, loop_fails, loop_init, loop_more}
 use Rattle.heyvl_parse.specs.readers.Combinators.{kind, starts}
 use Rattle.heyvl_parse.specs.internal.Procedures.{clause, clause_by, clause_of, clause_tree, clauses, divide, divided, is_clause}
@@ -22,7 +22,7 @@ posts_append [] ds = refl
 posts_append (Clause.pre a ∷ cs) ds = posts_append cs ds
 posts_append (Clause.post a ∷ cs) ds = ap (λ z. a ∷ z) (posts_append cs ds)
 
--- Of all clauses some are read so far, and these are their pre and their post clauses.
+-- The clauses read so far have these pre clauses and post clauses.
 abbrev pub RestOfClauses : ℕ → List Token → List Expression → List Expression → List Token → Type 0
 RestOfClauses n all before after ts = (cs : List Clause) × (pres cs ≡ before) × (posts cs ≡ after) × Rest is_clause (clause n) (clauses n all) cs ts
 

@@ -1,4 +1,4 @@
--- What the tokens spell is read, where nothing follows that would go on.
+-- Completeness of reading: what tokens spell is read, if the next token does not continue it.
 use Rattle.heyvl_parse.proofs.Right.{IsBounds, IsChoices, IsSign, Pair, Ranked, bound_text, bracket_text, choice_text, embed_text, group_text, prefix_text, wider}
 use Rattle.heyvl_parse.specs.readers.ReadParts.{Bad, Got, Read, Reader, Whole, bound_parts, by_kind, choice_parts, end_of, enclosed, expect, full, is_mark, mark_operator, more, operand, operator_at, operator_of, pair, placed, quantified, quantifier_of, reach, reading, repeats, type_name, whole, word}
 use Rattle.heyvl_places.specs.declared.spans.Span.{Span}
@@ -21,14 +21,14 @@ use Rattle.heyvl_syntax.specs.declared.types.TypeName.{TypeName}
 use Rattle.std.proofs.Common.{Bool, List, None, Option, Some, [], ap, append_assoc, arith, cond, eqb, false, inl, inr, length, length-append, refl, rules, subst, suc, sym, true, zero, ◌++◌, ◌<◌, ◌∙◌, ◌∷◌, ◌≡◌, ◌≤◌, ◌⊎◌, ℕ}
 use Rattle.std.proofs.lemmas.Bool.{eqb-true}
 
--- No operator of a rank below k stands at the front.
+-- The first token is not an operator of a rank below `k`.
 abbrev pub Quiet : ℕ → List Token → Type 0
 Quiet k rest = (j : ℕ) → j < k → operator_at j rest ≡ None
 
 abbrev Anything : List Token → Type 0
 Anything rest = Unit {0}
 
--- Before what follows, f reads each text of x.
+-- `f` reads each text of `x` before a rest that satisfies `Follow`.
 abbrev CompletesAt : {A : Type 0} → ℕ → (List Token → Type 0) → (A → List Token → Type 0) → (List Token → Read A) → A → Type 0
 CompletesAt n Follow P f x = (text rest : List Token) → P x text → length (text ++ rest) ≤ n → Follow rest → f (text ++ rest) ≡ Got x rest
 
@@ -59,7 +59,7 @@ complete_type n types.UReal text rest (s, e) len u = rw e refl
 complete_type n types.EUReal text rest (s, e) len u = rw e refl
 complete_type n types.Real text rest (s, e) len u = rw e refl
 
--- A mark that is no operator ends what stands before it.
+-- A symbol that is not an operator ends an expression.
 ends : (m : Mark) → mark_operator m ≡ None → (s : Span) (text rest : List Token) → IsSign m s text → Quiet 9 (text ++ rest)
 ends m none s text rest e j lt = rw (e, none) refl
 
@@ -98,7 +98,7 @@ lift t j text rest n len reads = (
   λ e q. (n, omega (arith, length-append text rest), rw (reads q) refl),
 )
 
--- The parts of rank 0.
+-- Expressions of rank 0.
 abbrev Base : Expression → Type 0
 Base t = (text rest : List Token) (n : ℕ) → IsExpr t 0 text → length (text ++ rest) ≤ n → Quiet 1 rest → operand (reading n) (text ++ rest) ≡ Got t rest
 
@@ -110,12 +110,12 @@ from_base t base same (suc k) text rest n h len = lift t k text rest n len ((fro
     lower : IsExpr t (suc k) text → IsExpr t k text
     lower h = wider t 0 k text (omega arith) (same (suc k) text h)
 
--- A text begins with a token, and what it begins reads the rest of the text.
+-- A text begins with a token, and what this token begins reads the rest.
 begin : (t : Expression) (k : TokenKind) (p : Span) (text back rest : List Token) (n : ℕ) → text ≡ at k p ∷ back → length (text ++ rest) ≤ n → ((m : ℕ) → length (back ++ rest) ≤ m → by_kind (reading (suc m)) k p (back ++ rest) (at k p ∷ (back ++ rest)) ≡ Got t rest) → operand (reading n) (text ++ rest) ≡ Got t rest
 begin t k p text back rest zero e len f = absurd (omega (arith, ap (λ z. length (z ++ rest)) e))
 begin t k p text back rest (suc m) e len f = rw e (f m (omega (arith, ap (λ z. length (z ++ rest)) e)))
 
--- Where the place of a tree is that of its text, it is the place that reading makes.
+-- The place of a tree whose place is that of its text is the place that reading makes.
 place_is : (s : Span) (text : List Token) (k : TokenKind) (p : Span) (back : List Token) (made : Span) → s ≡ extent text → text ≡ at k p ∷ back → made ≡ extent (at k p ∷ back) → made ≡ s
 place_is s text k p back made es e em = em ∙ sym (ap extent e) ∙ sym es
 
@@ -160,7 +160,7 @@ base_prefix op a s ca text rest n ((front, back, (p, hp), ha, e), es) len q =
     go prefixes.Minus m back p read place = rw read place
     go prefixes.Tilde m back p read place = rw read place
 
--- The parts of an ite, from its end.
+-- The parts of an `ite`, from the last to the first.
 abbrev Parts5 : Expression × Span → List Token → Type 0
 Parts5 = Pair (Ranked 9) (IsSign marks.ParenRight)
 
@@ -213,7 +213,7 @@ base_choice a b c s wa wb wc text rest n ((front, back, (p, hp), (f0, b0, (o, ho
         (λ text rest h u. ends_then marks.Comma refl Parts3 (x, (b, (y, (c, z)))) text rest h))
         (λ text rest h u. tt)
 
--- How the operators group.
+-- The grouping of operators.
 abbrev Groups : BinaryOp → Type 0
 Groups op =
     ((repeats op ≡ true) × ((ranks op).left ≡ (ranks op).rank) × (suc (ranks op).right ≡ (ranks op).rank))
@@ -281,7 +281,6 @@ rank_positive : (op : BinaryOp) → 1 ≤ (ranks op).rank
 rank_positive ops.Imply = omega arith
 rank_positive _ = omega arith
 
--- The text of an operator's tree, before what follows.
 joint : (left sign right behind text rest : List Token) (u : Token) → text ≡ left ++ behind → behind ≡ sign ++ right → sign ≡ u ∷ [] → text ++ rest ≡ left ++ (u ∷ (right ++ rest))
 joint left sign right behind text rest u e e2 h = rw (e, e2, h, append_assoc) refl
 
@@ -316,7 +315,7 @@ complete_infix op a b s ca cb (suc j) bound text rest n (le, (left, behind, ha, 
     pick (inl h) lower = lift (Expression.binary op a b s) j text rest n len (lower h)
     pick (inr r) lower = rw all (infix_at op a b s ca cb j bound left right rest n r (groups op) ha hb (rw all at len))
 
--- Where a quantifier stands, nothing below quantifiers is read.
+-- Before a quantifier no expression without quantifiers begins.
 key_stops : (self : Reader) (k : Key) (s : Span) (us : List Token) (up : Bool) → quantifier_of (kinds.Key k) ≡ Some up → by_kind self (kinds.Key k) s us (at (kinds.Key k) s ∷ us) ≡ Bad (at (kinds.Key k) s ∷ us)
 key_stops self keys.Sup s us up e = refl
 key_stops self keys.Inf s us up e = refl
@@ -340,7 +339,7 @@ unquantified self (u ∷ us) t rest h = go (quantifier_of u.kind) refl
     go None e = h
     go (Some up) e = let stop = full_stops self u us up e 8 in cc
 
--- A tree that is no quantifier.
+-- The claims for a tree that is not a quantifier.
 plain : (t : Expression) → Claims t → ((text : List Token) → IsExpr t 9 text → IsExpr t 8 text) → Claims t × WholeClaim t
 plain t claims narrow = (claims, λ text rest n h len q. unquantified (reading n) (text ++ rest) t rest ((claims 8 (omega arith) text rest n (narrow text h) len).0 q))
 
@@ -348,7 +347,7 @@ rank_bound : (op : BinaryOp) → (ranks op).rank ≤ 8
 rank_bound ops.Imply = omega arith
 rank_bound _ = omega arith
 
--- What stands behind the name of a quantifier, from its end.
+-- The parts after the variable of a quantifier, from the last to the first.
 abbrev Rest3 : Span × Expression → List Token → Type 0
 Rest3 = Pair (IsSign marks.Dot) (Ranked 9)
 

@@ -1,4 +1,4 @@
--- The loop over items, for every kind of item.
+-- The loop over items of any kind.
 use Rattle.heyvl_parse.specs.readers.Combinators.{added, cons, each, starts, with_front}
 use Rattle.heyvl_parse.specs.readers.ReadParts.{Bad, Got, Out, Read}
 use Rattle.heyvl_parse.specs.readers.Results.{Fails}
@@ -19,7 +19,7 @@ front_nil (Got xs r) = refl
 front_nil (Bad r) = refl
 front_nil Out = refl
 
--- Of all that is to be read, what is read so far is `before`, and items are left in `ts`.
+-- The items `before` and those of `ts` are all items.
 abbrev pub Rest : {A : Type 0} → (TokenKind → Bool) → (List Token → Read A) → Read (List A) → List A → List Token → Type 0
 Rest test f all before ts = (k : ℕ) × (length ts < k) × (all ≡ with_front before (each test f k ts))
 

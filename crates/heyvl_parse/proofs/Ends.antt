@@ -1,4 +1,4 @@
--- Where the last token of a text ends.
+-- The end of the last token of a text.
 use Rattle.heyvl_parse.specs.readers.ReadParts.{end_of}
 use Rattle.heyvl_places.specs.declared.spans.Span.{Span}
 use Rattle.heyvl_syntax.specs.Expressions.{Expression}
@@ -8,7 +8,6 @@ use Rattle.heyvl_syntax.specs.declared.tokens.Token.{Token}
 use Rattle.heyvl_syntax.specs.declared.tokens.TokenKind.{TokenKind}
 use Rattle.std.proofs.Common.{List, [], ap, arith, length, length-append, refl, sym, ◌++◌, ◌<◌, ◌∙◌, ◌∷◌, ◌≡◌, ℕ}
 
--- The text has tokens, and the last of them ends here.
 abbrev pub LastIs : List Token → ℕ → Type 0
 LastIs ts end = (0 < length ts) × (last_end ts ≡ end)
 
@@ -34,7 +33,7 @@ some_then kind Q ts (front, back, (s, h), q, e) = omega (arith, ap length e, ap 
 whole_end : (s : Span) (ts : List Token) → 0 < length ts → s ≡ extent ts → LastIs ts s.to
 whole_end s ts some e = (some, sym (ap (λ z. z.to) e))
 
--- The last token of an expression ends where its tree says.
+-- The last token of an expression ends at the `end_of` of its tree.
 pub last_of : (t : Expression) (k : ℕ) (ts : List Token) → IsExpr t k ts → LastIs ts (end_of t)
 last_of (Expression.number n s) k ts (h, e) = whole_end s ts (some_one _ ts h) e
 last_of (Expression.truth b s) k ts (h, e) = whole_end s ts (some_one _ ts h) e

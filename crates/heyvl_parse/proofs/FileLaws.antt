@@ -1,4 +1,5 @@
--- The laws of the reader of files, given those of the reader of blocks; and where tokens that it refuses are refused.
+-- The laws of the reader of files, from those of the reader of blocks; and the index at which
+-- tokens are refused.
 use Rattle.heyvl_parse.proofs.Lawful.{Laws, each_laws}
 use Rattle.heyvl_parse.proofs.ProcedureLaws.{on_procedure, procedure_laws}
 use Rattle.heyvl_parse.proofs.WholeLaws.{ended_laws, every_kind}
@@ -21,7 +22,6 @@ key_begins : (co : Bool) → begins (kinds.Key (proc_key co)) ≡ true
 key_begins true = refl
 key_begins false = refl
 
--- Each procedure begins with its note or its key.
 proc_starts : (p : Procedure) (text : List Token) → IsProc p text → starts begins text ≡ true
 proc_starts p text (h, placed) = by_note p.note _ h
   where

@@ -1,4 +1,4 @@
--- The laws of the readers of one key.
+-- The laws of the readers of one keyword.
 use Rattle.heyvl_parse.proofs.Lawful.{IsTest, Laws}
 use Rattle.heyvl_parse.proofs.Local.{local_one}
 use Rattle.heyvl_parse.proofs.Right.{Holds, nowhere, right_one, right_type}
@@ -21,7 +21,6 @@ use Rattle.heyvl_syntax.specs.declared.types.TypeName.TheVariants as types
 use Rattle.heyvl_syntax.specs.declared.types.TypeName.{TypeName}
 use Rattle.std.proofs.Common.{Bool, List, None, Option, Some, [], ap, cond, false, inl, inr, refl, true, ◌++◌, ◌∷◌, ◌≡◌, ℕ}
 
--- What a kind tells is what the grammar asks for.
 abbrev pub OfKind : {A : Type 0} → (A → TokenKind) → TokenKind → Option A → Type 0
 OfKind back k None = Unit {0}
 OfKind back k (Some x) = k ≡ back x
@@ -82,7 +81,7 @@ havoc_laws n = two_keys n key_havoc havoc_key sound refl refl
     sound keys.CoHavoc = refl
     sound _ = tt
 
--- The word of a reward.
+-- `'reward'|'tick'`
 abbrev pub IsRewardWord : Span → List Token → Type 0
 IsRewardWord s = IsAt (kinds.Key keys.Reward) s or IsAt (kinds.Key keys.Tick) s
 

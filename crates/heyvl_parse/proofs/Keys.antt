@@ -1,4 +1,4 @@
--- What a key at the front says, from the key.
+-- Reading one keyword, by the keyword.
 use Rattle.heyvl_parse.specs.declared.stops.PartStop.TheVariants.{Fault, Memory}
 use Rattle.heyvl_parse.specs.declared.stops.PartStop.{PartStop}
 use Rattle.heyvl_parse.specs.readers.Combinators.{kind}

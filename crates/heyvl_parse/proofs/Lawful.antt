@@ -1,4 +1,4 @@
--- The laws of a reader, and how they go over to what is put together from readers.
+-- The laws of a reader, and of the readers that combinators make of others.
 use Rattle.heyvl_parse.proofs.Local.{Local, LocalAt, Moves, local_bind, local_got, local_mapped, local_one, local_pair}
 use Rattle.heyvl_parse.proofs.Right.{Holds, Pair, Right, RightAt, Some_text, is_mark_true, nowhere, right_as, right_bind, right_map, right_one, right_pair}
 use Rattle.heyvl_parse.specs.readers.Combinators.{cons, each, each_if, either, lead, list, list0, list_if, no_kind, optional, refuse, sign, some_if, spanned, starts, taken, trail, with_front}
@@ -15,14 +15,14 @@ use Rattle.std.proofs.Common.{Bool, List, None, Option, Some, [], ap, append_ass
 use Rattle.std.proofs.Math.Seq.{take-append_seam}
 use Rattle.std.proofs.lemmas.List.{append-nil}
 
--- What a reader gives is spelled by what it takes, and can be completed before a fault; it looks at no token behind the first that
--- it leaves; and it gives each text of fewer than n tokens with its rest that no token that goes on with it follows.
+-- The laws of `f`. It gives what the tokens that it takes spell, and the tokens before an error can
+-- be completed. It looks at no token after the first one that it leaves. It reads each text of
+-- fewer than `n` tokens, if the next token does not satisfy `stop`.
 pub record Laws {A : Type 0} (n : ℕ) (Is : A → List Token → Type 0) (stop : TokenKind → Bool) (f : List Token → Read A) : Type 0 where
   pub right : RightAt Is f
   pub local : Local f
   pub complete : (x : A) (text rest : List Token) → Is x text → length (text ++ rest) < n → starts stop rest ≡ false → f (text ++ rest) ≡ Got x rest
 
--- Two readers that give the same have the same laws.
 pub right_same : {A : Type 0} (Is : A → List Token → Type 0) (f g : List Token → Read A) → ((ts : List Token) → f ts ≡ g ts) → RightAt Is g → RightAt Is f
 right_same Is f g same r ts = subst (λ z. Right Is ts z) (sym (same ts)) (r ts)
 
@@ -41,7 +41,6 @@ laws_same {Is = Is} {g = g} f same l = record {
   complete = λ x text rest h len quiet. same (text ++ rest) ∙ l.complete x text rest h len quiet;
 }
 
--- Fewer tokens go on, or there is less fuel.
 pub laws_less : {A : Type 0} {n : ℕ} {Is : A → List Token → Type 0} {stop : TokenKind → Bool} {f : List Token → Read A} (m : ℕ) → m ≤ n → Laws n Is stop f → Laws m Is stop f
 laws_less m le l = record { right = l.right; local = l.local; complete = λ x text rest h len quiet. l.complete x text rest h (omega arith) quiet }
 
@@ -52,7 +51,7 @@ laws_stop {stop = stop} wide le l = record { right = l.right; local = l.local; c
     narrow [] e = refl
     narrow (t ∷ ts) e = le t.kind e
 
--- A test that holds of one kind alone.
+-- A test that one kind alone satisfies.
 pub record IsTest (kind : TokenKind) (test : TokenKind → Bool) : Type 0 where
   pub only : (k : TokenKind) → test k ≡ true → k ≡ kind
   pub holds : test kind ≡ true
@@ -71,7 +70,6 @@ sign_laws {kind} {test} n is = record {
         pick true e = ap (λ k. at k t.span ∷ []) (is.only t.kind e)
         pick false e = tt
 
--- What a reader behind another gives.
 abbrev pub Both : {A B : Type 0} → (A → List Token → Type 0) → (B → List Token → Type 0) → A × B → List Token → Type 0
 Both P Q p = P p.0 then Q p.1
 
@@ -84,7 +82,7 @@ shorter_back n text one two rest e len = omega (arith, ap (λ z. length (z ++ re
 back_shorter : (n : ℕ) (one two rest : List Token) → length (one ++ (two ++ rest)) < n → length (two ++ rest) < n
 back_shorter n one two rest len = omega (arith, length-append one (two ++ rest))
 
--- First the one and then the other, whose texts and rests don't go on with those of the first.
+-- `f` and then `g`, where no text of `g` and no rest continues a text of `f`.
 pub pair_laws : {A B : Type 0} {n : ℕ} {P : A → List Token → Type 0} {Q : B → List Token → Type 0} {s t : TokenKind → Bool} {f : List Token → Read A} {g : List Token → Read B} → Laws n P s f → Laws n Q t g → Some_text Q → ((y : B) (text rest : List Token) → Q y text → starts t rest ≡ false → starts s (text ++ rest) ≡ false) → Laws n (Both P Q) t (pair f g)
 pair_laws {A} {B} {n} {P} {Q} {s} {t} {f} {g} lf lg some fits = record {
   right = λ ts. right_as (Pair P Q) (Both P Q) ts (pair f g ts) (λ p text h. same_both p text h) (right_pair P Q f g lf.right lg.right some ts);
@@ -101,7 +99,7 @@ pair_laws {A} {B} {n} {P} {Q} {s} {t} {f} {g} lf lg some fits = record {
         let long : length (one ++ (two ++ rest)) < n = shorter_back n text one two rest e len in
         rw (cut, lf.complete x one (two ++ rest) hp long (fits y two rest hq quiet), lg.complete y two rest hq (back_shorter n one two rest long) quiet) refl
 
--- Nothing goes on with the first.
+-- `f` and then `g`, where nothing continues a text of `f`.
 pub pair_free : {A B : Type 0} {n : ℕ} {P : A → List Token → Type 0} {Q : B → List Token → Type 0} {t : TokenKind → Bool} {f : List Token → Read A} {g : List Token → Read B} → Laws n P no_kind f → Laws n Q t g → Some_text Q → Laws n (Both P Q) t (pair f g)
 pair_free lf lg some = pair_laws lf lg some (λ y text rest h quiet. free (text ++ rest))
   where
@@ -109,7 +107,6 @@ pair_free lf lg some = pair_laws lf lg some (λ y text rest h quiet. free (text 
     free [] = refl
     free (t ∷ ts) = refl
 
--- What is made of what was read.
 pub mapped_laws : {A B : Type 0} {n : ℕ} {P : A → List Token → Type 0} {s : TokenKind → Bool} {f : List Token → Read A} (h : A → B) (R : B → List Token → Type 0) → Laws n P s f → ((x : A) (text : List Token) → P x text → R (h x) text) → ((y : B) (text : List Token) → R y text → (x : A) × (y ≡ h x) × P x text) → Laws n R s (mapped h f)
 mapped_laws {A} {B} {n} {P} {s} {f} h R lf into out = record {
   right = λ ts. right_map P R h ts (f ts) into (lf.right ts);
@@ -135,7 +132,7 @@ lead_laws {A} {n} {P} {s} {f} {kind} {test} is lf some =
     laws_same (lead test f) (lead_is test f)
     (mapped_laws (λ p. p.1) (λ x. IsOne kind then P x) (pair_free (sign_laws n is) lf some) (λ p text (one, two, h, q, e). (one, two, (p.0, h), q, e)) (λ x text (one, two, (s, h), q, e). ((s, x), refl, (one, two, h, q, e))))
 
--- A token in front gives fuel for one more.
+-- A token before the text gives fuel for one more step.
 pub lead_more : {A : Type 0} {n : ℕ} {P : A → List Token → Type 0} {s : TokenKind → Bool} {f : List Token → Read A} {kind : TokenKind} {test : TokenKind → Bool} → IsTest kind test → Laws n P s f → Some_text P → Laws (suc n) (λ x. IsOne kind then P x) s (lead test f)
 lead_more {A} {n} {P} {s} {f} {kind} {test} is lf some = let lower = lead_laws is lf some in record {
   right = lower.right;
@@ -167,7 +164,6 @@ trail_laws {A} {n} {P} {s} {f} {kind} {test} is lf ends =
 taken_is : (ts text r : List Token) → ts ≡ text ++ r → taken ts r ≡ text
 taken_is ts text r e = let len : length ts - length r ≡ length text = omega (arith, ap length e, length-append text r) in rw (len, e) (take-append_seam text r)
 
--- What is made of what was read and its place.
 pub spanned_laws : {A B : Type 0} {n : ℕ} {P : A → List Token → Type 0} {s : TokenKind → Bool} {f : List Token → Read A} (h : A → Span → B) (R : B → List Token → Type 0) → Laws n P s f → ((x : A) (text : List Token) → P x text → R (h x (extent text)) text) → ((y : B) (text : List Token) → R y text → (x : A) × (y ≡ h x (extent text)) × P x text) → Laws n R s (spanned h f)
 spanned_laws {A} {B} {n} {P} {s} {f} h R lf into out = record {
   right = λ ts. rights ts (f ts) (lf.right ts);
@@ -187,7 +183,7 @@ spanned_laws {A} {B} {n} {P} {s} {f} h R lf into out = record {
     locals ts (Bad r) (text, e, move) = (text, e, λ t r0 r' eq. rw (move t r0 r' eq) refl)
     locals ts Out m = tt
 
--- What is chosen by the token at the front.
+-- The reader that the first token chooses.
 pub chosen_local : {A C : Type 0} (of : List Token → C) (f : C → List Token → Read A) (g : List Token → Read A) → ((ts : List Token) → g ts ≡ f (of ts) ts) → ((t : Token) (r r' : List Token) → of (t ∷ r) ≡ of (t ∷ r')) → ((c : C) → Local (f c)) → Local g
 chosen_local {A} {C} of f g is same l = local_same g (λ ts. f (of ts) ts) is go
   where
@@ -242,7 +238,8 @@ pub starts_second : (one two : TokenKind → Bool) (ts : List Token) → starts 
 starts_second one two [] e = refl
 starts_second one two (t ∷ ts) e = either_second one two t.kind e
 
--- An item that may be there: its texts begin with a token of this sort, and no token of this sort goes on where it isn't there.
+-- An optional item. Its texts begin with a token that satisfies `test`, and no such token continues
+-- the text without it.
 pub optional_laws : {A : Type 0} {n : ℕ} {P : A → List Token → Type 0} {s : TokenKind → Bool} {f : List Token → Read A} (test : TokenKind → Bool) → Laws n P s f → ((x : A) (text : List Token) → P x text → starts test text ≡ true) → Laws n (IsOptional P) (either s test) (optional test f)
 optional_laws {A} {n} {P} {s} {f} test lf begins = record {
   right = λ ts. rights (starts test ts) ts;
@@ -286,7 +283,7 @@ right_cons {A} P Q R f g rf rg (ys, t, q) into ts =
 pub some_each : {A : Type 0} (P : A → List Token → Type 0) → Some_text (IsEach P)
 some_each P = ([], [], refl)
 
--- Items one behind another: a token of their sort begins each, and goes on with none before it.
+-- Items in sequence. A token that satisfies `test` begins each, and continues none.
 pub each_laws : {A : Type 0} {n : ℕ} {P : A → List Token → Type 0} {s : TokenKind → Bool} {f : List Token → Read A} (test : TokenKind → Bool) → Laws n P s f → ((x : A) (text : List Token) → P x text → starts test text ≡ true) → ((k : TokenKind) → test k ≡ true → s k ≡ false) → (m : ℕ) → m ≤ n → Laws m (IsEach P) (either s test) (each test f m)
 each_laws {A} {n} {P} {s} {f} test lf begins free = go
   where
@@ -328,7 +325,7 @@ each_laws {A} {n} {P} {s} {f} test lf begins free = go
 then_unassoc : (P Q R : List Token → Type 0) (ts : List Token) → (P then Q then R) ts → ((P then Q) then R) ts
 then_unassoc P Q R ts (us, back, p, (vs, ys, q, r, d), e) = (us ++ vs, ys, (us, vs, p, q, refl), r, e ∙ ap (λ z. us ++ z) d ∙ sym (append_assoc us vs ys))
 
--- An item with a comma before it.
+-- An item after a comma.
 abbrev pub Next_item : {A : Type 0} → (A → List Token → Type 0) → A → List Token → Type 0
 Next_item P x = IsMark marks.Comma then P x
 
@@ -349,7 +346,7 @@ comma_test = record { only = is_mark_true marks.Comma; holds = refl }
 mark_starts : {A : Type 0} (m : Mark) (P : A → List Token → Type 0) → is_mark m (kinds.Mark m) ≡ true → (x : A) (text : List Token) → (IsMark m then P x) text → starts (is_mark m) text ≡ true
 mark_starts m P same x text (one, two, (s, h), p, e) = rw (e, h) same
 
--- list(x): a comma goes on with it.
+-- `list(x)`: a comma continues it.
 pub list_laws : {A : Type 0} {n : ℕ} {P : A → List Token → Type 0} {s : TokenKind → Bool} {f : List Token → Read A} → Laws n P s f → Some_text P → s (kinds.Mark marks.Comma) ≡ false → Laws n (IsList P) (either s (is_mark marks.Comma)) (list f n)
 list_laws {A} {n} {P} {s} {f} lf some free = record {
   right = right_cons P (IsEach (Next_item P)) (IsList P) f (each (is_mark marks.Comma) (lead (is_mark marks.Comma) f) n) lf.right more.right (some_each (Next_item P)) (λ x xs one two p q. (one, two, p, each_more P xs two q, refl));
@@ -377,7 +374,7 @@ list_laws {A} {n} {P} {s} {f} lf some free = record {
 pub some_list0 : {A : Type 0} (P : A → List Token → Type 0) → Some_text (IsList0 P)
 some_list0 P = ([], [], refl)
 
--- list0(x) and the ')' behind it, with which no item begins.
+-- `list0(x)` and `)`, which begins no item.
 pub list0_laws : {A : Type 0} {n : ℕ} {P : A → List Token → Type 0} {s : TokenKind → Bool} {f : List Token → Read A} → Laws n P s f → Some_text P → s (kinds.Mark marks.Comma) ≡ false → s (kinds.Mark marks.ParenRight) ≡ false → ((x : A) (text rest : List Token) → P x text → starts (is_mark marks.ParenRight) (text ++ rest) ≡ false) → Laws n (λ xs. IsList0 P xs then IsMark marks.ParenRight) no_kind (trail (list0 f n) (is_mark marks.ParenRight))
 list0_laws {A} {n} {P} {s} {f} lf some free close begins = record {
   right = right_same _ (trail (list0 f n) (is_mark marks.ParenRight)) _ (trail_is (is_mark marks.ParenRight) (list0 f n)) (λ ts. right_map _ _ (λ p. p.0) ts _ (λ p text h. into p text h) (right_pair (IsList0 P) (λ (s : Span). IsAt (kinds.Mark marks.ParenRight) s) (list0 f n) (sign (is_mark marks.ParenRight)) (λ ts. rights (starts (is_mark marks.ParenRight) ts) ts) (sign_laws n close_test).right (nowhere, at (kinds.Mark marks.ParenRight) nowhere ∷ [], refl) ts));

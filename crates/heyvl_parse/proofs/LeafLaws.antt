@@ -1,4 +1,5 @@
--- A name or a number behind which nothing goes on is a whole expression, and a whole right side.
+-- An identifier or a number that the next token does not continue is a whole expression and a whole
+-- right side.
 use Rattle.heyvl_parse.proofs.RankClimbs.{climb_ends, full_climbed}
 use Rattle.heyvl_parse.specs.readers.Combinators.{is_operator, is_there, starts}
 use Rattle.heyvl_parse.specs.internal.Leaves.{goes_on, is_alone, is_leaf, leaf, leaf_of}
@@ -22,7 +23,6 @@ neither_second : (a b : Bool) → cond a true b ≡ false → b ≡ false
 neither_second false b e = e
 neither_second true b e = cc
 
--- Nothing goes on.
 quiet_word : (a b : Bool) → (a && not b) ≡ true → b ≡ false
 quiet_word true false e = refl
 quiet_word true true e = cc
@@ -44,7 +44,7 @@ no_call_here : (ts : List Token) → starts goes_on ts ≡ false → starts (is_
 no_call_here [] e = refl
 no_call_here (t ∷ ts) e = neither_first (is_mark marks.ParenLeft t.kind) (is_operator t.kind) e
 
--- An operand behind which no operator stands.
+-- An operand that no operator follows.
 full_of : (m : ℕ) (x : Expression) (all ts : List Token) → operand (reading m) all ≡ Got x ts → length ts < m → operator_within 1 8 ts ≡ None → full (reading m) 8 all ≡ Got x ts
 full_of m x all ts first lt none =
     full_climbed (reading m) 8 all ∙ ap (λ (r : Read Expression). r >>= climbed (reading m) (reading m) 8 1) first ∙ climb_ends (λ r. r ≡ Got x ts) 1 8 x ts none (omega arith) refl m m lt lt

@@ -7,6 +7,7 @@ mod RankClimbs
 mod Complete
 mod EachLoop
 mod Ends
+mod FaultExamples
 mod FileLaws
 mod SequelLaws
 mod Fuel

@@ -1,4 +1,4 @@
--- Reading looks at no token behind the first that it leaves.
+-- Locality of reading: a reader looks at no token after the first one that it leaves.
 use Rattle.heyvl_parse.specs.readers.ReadParts.{Bad, Full, Got, More, Out, Part, Read, Reader, Whole, after, bound, bound_parts, bound_tree, bracket_tree, by_kind, choice, choice_parts, choice_tree, embed_tree, enclosed, expect, full, given, group_tree, joined, key_start, mapped, mark_start, more, one, operand, operator_of, pair, placed, prefix_tree, prefixed, quantified, quantifier_of, ranked, reading, repeats, started, step, type_name, whole, word, ◌>>=◌}
 use Rattle.heyvl_parse.specs.declared.starts.Start.TheVariants as starts
 use Rattle.heyvl_parse.specs.declared.starts.Start.{Start}
@@ -14,7 +14,7 @@ use Rattle.heyvl_syntax.specs.declared.tokens.TokenKind.TheVariants as kinds
 use Rattle.heyvl_syntax.specs.declared.tokens.TokenKind.{TokenKind}
 use Rattle.std.proofs.Common.{Bool, List, None, Option, Some, [], ap, append_assoc, false, refl, subst, suc, sym, true, zero, ◌++◌, ◌∙◌, ◌∷◌, ◌≡◌, ℕ}
 
--- f reads text, and behind it gives the same for each list that begins with the same token.
+-- `f` reads a text of `ts`, and gives the same before each rest that begins with the same token.
 abbrev pub Moves : {A : Type 0} → (List Token → Read A) → (List Token → Read A) → List Token → List Token → Type 0
 Moves f put ts r = (text : List Token) × (ts ≡ text ++ r) × ((t : Token) (r0 r' : List Token) → r ≡ t ∷ r0 → f (text ++ (t ∷ r')) ≡ put (t ∷ r'))
 
@@ -95,7 +95,7 @@ module _ (self : Reader) (l : AllLocal self) where
       local_pair word _ (local_one _)
       (local_pair (expect marks.Colon) _ (local_one _) (local_pair type_name _ (local_one _) (local_pair (expect marks.Dot) _ (local_one _) (l Whole))))
 
-  -- What stands behind the token u, by what begins there.
+  -- The reading after the token `u`, by what `u` begins.
   local_started : (f : List Token → Read Expression) (st : Start) (u : Token) (us : List Token) → ((t : Token) (zs : List Token) → u ≡ t → f (t ∷ zs) ≡ started self st t.span zs (t ∷ zs)) → LocalAt f (u ∷ us) (started self st u.span us (u ∷ us))
   local_started f (starts.Truth b) u us e = (u ∷ [], refl, λ t r0 r' eq. e u (t ∷ r') refl)
   local_started f starts.Infinity u us e = (u ∷ [], refl, λ t r0 r' eq. e u (t ∷ r') refl)

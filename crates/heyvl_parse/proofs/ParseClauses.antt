@@ -1,4 +1,4 @@
--- What follows from the first two clauses of the parser: that it gives nothing else.
+-- The other clauses of `parse`, from its clauses `found` and `fault`.
 use Rattle.heyvl_parse.specs.Files.{IsParseMemory, IsParseStop, IsThisParseStop}
 use Rattle.heyvl_parse.specs.Laws.{FileIsUnique}
 use Rattle.heyvl_parse.specs.declared.parser.ParseStop.TheVariants.{Fault, Memory}

@@ -1,4 +1,4 @@
--- The laws of the reader of procedures, given those of the reader of blocks.
+-- The laws of the reader of procedures, from those of the reader of blocks.
 use Rattle.heyvl_parse.proofs.Lawful.{Both, Laws, each_laws, either_second, lead_laws, list0_laws, mapped_laws, optional_laws, laws_stop, pair_free, pair_laws, some_both, spanned_laws, starts_first}
 use Rattle.heyvl_parse.proofs.Right.{Some_text, nowhere, some_type, some_word}
 use Rattle.heyvl_parse.proofs.RightLaws.{expr_laws, mark_test, some_full, some_lead, word_laws}
@@ -24,11 +24,10 @@ use Rattle.heyvl_syntax.specs.declared.types.TypeName.{TypeName}
 use Rattle.std.proofs.Common.{Bool, List, None, Option, Some, [], ap, append_assoc, arith, codes, cond, false, nat_eq, refl, sym, true, ◌++◌, ◌∷◌, ◌≡◌, ℕ}
 use Rattle.std.specs.Cmp.Lexicographic.{pointwise, same_text}
 
--- What follows a token that begins a text.
 led_free : (P : List Token → Type 0) (kind : TokenKind) (stop : TokenKind → Bool) → stop kind ≡ false → (text rest : List Token) → (IsOne kind then P) text → starts stop (text ++ rest) ≡ false
 led_free P kind stop free text rest (one, two, (s, h), p, e) = rw (e, h) free
 
--- Notes.
+-- Notes
 note_sound : (k : TokenKind) → OfKind (λ x. kinds.Word (note_word x)) k (note_of k)
 note_sound (kinds.Key k) = tt
 note_sound (kinds.Number n) = tt
@@ -58,7 +57,7 @@ some_note_word = (notes.Wp, at (kinds.Word (note_word notes.Wp)) nowhere ∷ [],
 note_laws : (n : ℕ) → Laws n IsNote no_kind note
 note_laws n = lead_laws (mark_test marks.AtSign) (kind_laws n note_of (λ x. kinds.Word (note_word x)) note_sound note_same notes.Wp) some_note_word
 
--- proc and coproc
+-- `proc` and `coproc`
 proc_sound : (k : TokenKind) → OfKind (λ co. kinds.Key (proc_key co)) k (proc_of k)
 proc_sound (kinds.Key k) = of_key k
   where
@@ -96,7 +95,7 @@ opening_laws n = pair_laws (optional_laws (is_mark marks.AtSign) (note_laws n) (
 some_opening : Some_text IsOpening
 some_opening = some_both (None, [], refl) some_proc_key
 
--- Parameters.
+-- Parameters
 abbrev ParamParts : List ℕ × TypeName → List Token → Type 0
 ParamParts p = IsName p.0 then IsMark marks.Colon then IsType p.1
 
@@ -139,7 +138,7 @@ some_signature = some_both {P = IsName} some_word (some_both some_params some_ou
 signature_laws : (n : ℕ) → Laws n IsSignature no_kind (signature n)
 signature_laws n = pair_free (word_laws n) (pair_free (params_laws n) (lead_laws (mark_test marks.Arrow) (params_laws n) some_params) some_outputs) (some_both some_params some_outputs)
 
--- Clauses.
+-- Clauses
 abbrev clause_key : Bool → Key
 clause_key true = keys.Post
 clause_key false = keys.Pre
@@ -206,7 +205,7 @@ divided_laws n = mapped_laws divide IsDivided (clauses_laws n) (λ cs text h. (c
 some_divided : Some_text IsDivided
 some_divided = (([], []), [], ([], refl, refl, refl))
 
--- The kinds that go on with a procedure.
+-- The kinds that continue a procedure.
 abbrev pub on_procedure : TokenKind → Bool
 on_procedure = either on_clauses (is_mark marks.BraceLeft)
 
@@ -236,7 +235,7 @@ IsParts = Both IsOpening (Both IsSignature IsPromise)
 parts_laws : {n : ℕ} {block : List Token → Read Block} → Laws n IsBlock no_kind block → Laws n IsParts on_procedure (pair opening (pair (signature n) (promise block n)))
 parts_laws {n} lb = pair_free (opening_laws n) (pair_free (signature_laws n) (promise_laws lb) some_promise) (some_both some_signature some_promise)
 
--- The same parts, one behind another.
+-- The parts of a procedure, grouped as they are read.
 module _ (note key name left inputs right arrow before outputs close clauses body : List Token → Type 0) where
   abbrev Grouped : List Token → Type 0
   Grouped = (note then key) then ((name then ((left then (inputs then right)) then (arrow then (before then (outputs then close))))) then (clauses then body))

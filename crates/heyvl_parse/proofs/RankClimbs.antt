@@ -1,4 +1,4 @@
--- Climbing from an operand through the ranks.
+-- The climb from an operand through the ranks.
 use Rattle.heyvl_parse.specs.readers.ReadParts.{Bad, Full, Got, Out, Read, Reader, climbed, full, more, next_level, operand, operator_at, operator_of, operator_within, placed, ranked, reading, repeats, within, ◌>>=◌}
 use Rattle.heyvl_parse.specs.readers.Results.{Fails, Gives}
 use Rattle.heyvl_parse.specs.declared.stops.PartStop.TheVariants.{Fault, Memory}
@@ -11,7 +11,6 @@ use Rattle.heyvl_syntax.specs.declared.tokens.Token.{Token}
 use Rattle.std.proofs.Common.{Bool, Err, IsErr, IsErrAnd, List, None, Ok, Option, Result, Some, [], ap, arith, cond, false, length, nat_eq, nat_le, refl, subst, suc, sym, true, zero, ◌&&◌, ◌+◌, ◌-◌, ◌<◌, ◌∙◌, ◌∷◌, ◌≡◌, ◌≤◌, ℕ}
 use Rattle.std.proofs.lemmas.Bool.Decides.{nat_tests}
 
--- One after the other.
 bind_by : (r : Read Expression) (f g h : Expression → List Token → Read Expression) → ((x : Expression) (ts : List Token) → f x ts ≡ (g x ts >>= h)) → (r >>= f) ≡ ((r >>= g) >>= h)
 bind_by (Got x ts) f g h same = same x ts
 bind_by (Bad ts) f g h same = refl
@@ -26,7 +25,7 @@ pub fails_first : (e : PartStop) (r : Read Expression) (f : Expression → List 
 fails_first (Fault left) r f (rest, same, len) = rw same (rest, refl, len)
 fails_first (Memory error) r f h = tt
 
--- The last rank behind the others.
+-- The last rank after the others.
 climbed_last : (self : Reader) (n low : ℕ) (left : Expression) (ts : List Token) → climbed self self (suc n) low left ts ≡ (climbed self self n low left ts >>= more self (low + n))
 climbed_last self zero low left ts = let e : low + 0 ≡ low = omega arith in rw e (bind_got (more self low left ts) (climbed self self zero (suc low)) (λ x rest. refl))
 climbed_last self (suc n) low left ts =
@@ -40,7 +39,7 @@ full_climbed self (suc k) ts =
     let last : (x : Expression) (rest : List Token) → climbed self self (suc k) 1 x rest ≡ (climbed self self k 1 x rest >>= more self (suc k)) = λ x rest. rw (← e) (climbed_last self k 1 x rest) in
     ap (λ (r : Read Expression). r >>= more self (suc k)) (full_climbed self k ts) ∙ sym (bind_by (operand self ts) (climbed self self (suc k) 1) (climbed self self k 1) (more self (suc k)) last)
 
--- No operator of these ranks stands at the front.
+-- No operator of these ranks is the first token.
 placed_some : {A : Type 0} (x : A) (s : Span) (ts : List Token) → placed s ts (Some x) ≡ None → ⊥
 placed_some x s ts h = cc
 
@@ -61,7 +60,7 @@ quiet one others zero low high left ts none le = refl
 quiet one others (suc n) low high left ts none le =
     rw (none low (omega arith) (omega arith)) (quiet others others n (suc low) high left ts (λ j a b. none j (omega arith) b) (omega arith))
 
--- The operator that stands at the front.
+-- The operator that is the first token.
 pub record Stands (low high : ℕ) (ts : List Token) (op : BinaryOp) (s : Span) (behind : List Token) : Type 0 where
   pub above : low ≤ (ranks op).rank
   pub below : (ranks op).rank ≤ high
@@ -94,11 +93,11 @@ stands : (low high : ℕ) (ts : List Token) (op : BinaryOp) (s : Span) (behind :
 stands low high [] op s behind h = absurd (cc)
 stands low high (t ∷ ts) op s behind h = stands_of low high t ts (operator_of t.kind) op s behind refl h
 
--- What holds of the climb from a rank on, for each fuel above the tokens.
+-- `P` holds of the climb from a rank on, for all fuel above the number of tokens.
 abbrev pub Holds : (Read Expression → Type 0) → ℕ → ℕ → Expression → List Token → Type 0
 Holds P n low left ts = (m k : ℕ) → length ts < m → length ts < k → P (climbed (reading m) (reading k) n low left ts)
 
--- Ranks of which no operator stands at the front are passed.
+-- The climb skips the ranks that no operator follows.
 climb_to : (P : Read Expression → Type 0) (d count n low rank : ℕ) (left : Expression) (ts : List Token) → count ≡ d + n → rank ≡ low + d → ((j : ℕ) → j < rank → operator_at j ts ≡ None) → Holds P n rank left ts → Holds P count low left ts
 climb_to P zero count n low rank left ts c r none holds m k a b =
     let e : count ≡ n = omega arith in
@@ -108,7 +107,7 @@ climb_to P (suc d) zero n low rank left ts c r none holds m k a b = absurd (omeg
 climb_to P (suc d) (suc count) n low rank left ts c r none holds m k a b =
     rw (none low (omega arith)) (climb_to P d count n (suc low) rank left ts (omega arith) (omega arith) none holds k k b b)
 
--- An operator and its right operand are read.
+-- The step that reads an operator and its right operand.
 one_more : (P : Read Expression → Type 0) (n : ℕ) (op : BinaryOp) (left right : Expression) (s : Span) (ts behind rest : List Token) → operator_at (ranks op).rank ts ≡ Some (op, s, behind) → length behind < length ts → length rest < length behind → ((m : ℕ) → length behind < m → reading m (Full (ranks op).right) behind ≡ Got right rest) → (again : Bool) → repeats op ≡ again → Holds P (cond again (suc n) n) (cond again (ranks op).rank (suc (ranks op).rank)) (Expression.binary op left right s) rest → Holds P (suc n) (ranks op).rank left ts
 one_more P n op left right s ts behind rest here shorter less read true e holds zero k a b = absurd (omega arith)
 one_more P n op left right s ts behind rest here shorter less read true e holds (suc m) k a b =
@@ -133,19 +132,19 @@ climb_on P low high op left right s ts behind rest inside shorter less read hold
         let same : suc high - suc (ranks op).rank ≡ high - (ranks op).rank = omega arith in
         subst (λ (n : ℕ). Holds P n (suc (ranks op).rank) (Expression.binary op left right s) rest) same holds
 
--- The right operand isn't read.
+-- The case in which the right operand is not read.
 pub climb_stops : (e : PartStop) (low high : ℕ) (op : BinaryOp) (left : Expression) (s : Span) (ts behind : List Token) → operator_within low high ts ≡ Some (op, s, behind) → length behind < length ts → ((m : ℕ) → length behind < m → Fails e (reading m (Full (ranks op).right) behind)) → Holds (Fails e) (suc high - low) low left ts
 climb_stops e low high op left s ts behind inside shorter read =
     let at = stands low high ts op s behind inside in
     climb_to (Fails e) ((ranks op).rank - low) (suc high - low) (suc (high - (ranks op).rank)) low (ranks op).rank left ts (omega (arith, at.above, at.below)) (omega (arith, at.above)) at.before
     (λ m k a b. rw at.here (fails_first e _ _ (fails_first e _ _ (read m (omega arith)))))
 
--- No further operator stands at the front.
+-- The case in which no operator follows.
 pub climb_ends : (P : Read Expression → Type 0) (low high : ℕ) (left : Expression) (ts : List Token) → operator_within low high ts ≡ None → low ≤ suc high → P (Got left ts) → Holds P (suc high - low) low left ts
 climb_ends P low high left ts none le got m k a b =
     rw (quiet (reading m) (reading k) (suc high - low) low high left ts (λ j x y. none_at low high j ts x y none) (omega arith)) got
 
--- What the rest of a climb gives, the whole gives.
+-- The whole climb gives what the rest of it gives.
 abbrev pub Leads : {X : Type 0} → (X → Expression) → (X → List Token) → ℕ → Expression → List Token → ℕ → Expression → List Token → Type 0
 Leads {X} view rest high first all low left ts =
     (result : Result X PartStop) → Holds (λ r. Gives view rest result r) (suc high - low) low left ts → Holds (λ r. Gives view rest result r) high 1 first all
@@ -165,7 +164,7 @@ next_within low high op s ts behind inside = pick (repeats op)
     pick true = omega (arith, below)
     pick false = omega (arith, below)
 
--- What `?` passes on.
+-- The error that `?` returns.
 pub passed : {A : Type 0} (r : Result A PartStop) (e : PartStop) → IsErr r × IsErrAnd r (λ f. f ≡ e) → r ≡ Err e
 passed (Ok x) e (is, same) = absurd same
 passed (Err f) e (is, same) = ap Err same

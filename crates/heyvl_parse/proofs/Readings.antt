@@ -1,4 +1,5 @@
--- Reading gives what is spelled, where nothing behind it goes on with it; so tokens spell at most one expression.
+-- Reading gives what is spelled, if the next token does not continue it; so tokens spell at most
+-- one expression.
 use Rattle.heyvl_parse.proofs.Complete.{Quiet, complete}
 use Rattle.heyvl_parse.specs.Laws.{ExpressionIsUnique}
 use Rattle.heyvl_parse.specs.readers.ReadParts.{Got, Whole, reading}

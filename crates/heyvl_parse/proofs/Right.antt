@@ -1,4 +1,5 @@
--- What reading gives is spelled by the tokens that it took, and what it took before a fault can be completed.
+-- Soundness of reading: the tokens that it takes spell what it gives, and those before an error can
+-- be completed.
 use Rattle.heyvl_parse.proofs.Ends.{LastIs, last_of, last_one, last_then}
 use Rattle.heyvl_parse.specs.readers.ReadParts.{Bad, Bounds, Choices, Full, Got, More, Out, Part, Read, Reader, Whole, after, bound_parts, bound_tree, bracket_tree, by_kind, choice_parts, choice_tree, embed_tree, enclosed, end_of, expect, full, given, group_tree, is_mark, joined, key_operator, key_start, key_type, mark_operator, mark_place, mark_start, more, one, operand, operator_of, pair, placed, prefix_tree, prefixed, quantified, quantifier_of, ranked, reach, reading, repeats, started, step, type_name, type_of, whole, word, word_of, ◌>>=◌}
 use Rattle.heyvl_parse.specs.declared.starts.Start.TheVariants as starts
@@ -29,7 +30,7 @@ Right Is ts (Got x r) = (text : List Token) × (ts ≡ text ++ r) × Is x text
 Right {A} Is ts (Bad r) = (text more : List Token) × (x : A) × (ts ≡ text ++ r) × Is x (text ++ more)
 Right Is ts Out = Unit {0}
 
--- Some text is of this sort.
+-- Some tokens spell a thing of this production.
 abbrev pub Some_text : {A : Type 0} → (A → List Token → Type 0) → Type 0
 Some_text {A} Is = (x : A) × (text : List Token) × Is x text
 
@@ -59,7 +60,6 @@ right_bind P Q ts (Bad r) k (text, more, x, e, h) f g =
     (text, more ++ rest, y, e, subst (Q y) (append_assoc text more rest) q)
 right_bind P Q ts Out k h f g = tt
 
--- First the one and then the other.
 abbrev pub Pair : {A B : Type 0} → (A → List Token → Type 0) → (B → List Token → Type 0) → A × B → List Token → Type 0
 Pair P Q (x, y) = P x then Q y
 
@@ -151,7 +151,7 @@ right_type = right_one IsType (λ t. type_of t.kind) (λ t. holds t.kind t.span)
     holds (kinds.Key k) s = of_key k s
     holds (kinds.Mark m) s = tt
 
--- What may stand left of an operator of rank k.
+-- The left operand of an operator of rank `k`.
 abbrev pub FitsLeft : ℕ → Expression → List Token → Type 0
 FitsLeft k left before = ((op : BinaryOp) → (ranks op).rank ≡ k → IsExpr left (ranks op).left before) × IsExpr left k before
 
@@ -179,7 +179,7 @@ wider (Expression.binary op a b s) j k text le (within, h) = (omega arith, h)
 wider (Expression.choice a b c s) j k text le h = h
 wider (Expression.bound up x t a s) j k text le (within, h, e) = (omega arith, h, e)
 
--- A sample.
+-- An example.
 pub some_expr : (k : ℕ) → Some_text (Ranked k)
 some_expr k = (Expression.infinity nowhere, at (kinds.Key keys.Infty) nowhere ∷ [], ((nowhere, refl), refl))
 
@@ -192,7 +192,6 @@ module _ (self : Reader) (good : Good self) where
       right_pair (IsSign marks.ParenLeft) (Pair (Ranked 9) (IsSign marks.ParenRight)) (expect marks.ParenLeft) (enclosed self marks.ParenRight) (right_expect marks.ParenLeft) (right_enclosed marks.ParenRight)
       (some_pair (Ranked 9) (IsSign marks.ParenRight) (some_expr 9) (some_sign marks.ParenRight))
 
--- A token and then a text that ends here.
 covers : (kind : TokenKind) (s : Span) (text : List Token) (end : ℕ) → LastIs text end → reach s end ≡ extent (at kind s ∷ text)
 covers kind s text end h = ap (reach s) (sym (last_then (at kind s ∷ text) (at kind s ∷ []) text end refl h).1)
 
@@ -236,7 +235,7 @@ right_token t ts P (Got x r) (text, e, h) = (t ∷ text, ap (λ z. t ∷ z) e, h
 right_token t ts P (Bad r) (text, more, x, e, h) = (t ∷ text, more, x, ap (λ z. t ∷ z) e, h)
 right_token t ts P Out h = tt
 
--- What begins names the token.
+-- The kind of the token that a `Start` comes from.
 abbrev BeginsAs : Start → TokenKind → Type 0
 BeginsAs (starts.Truth b) k = k ≡ kinds.Key (truth_key b)
 BeginsAs starts.Infinity k = k ≡ kinds.Key keys.Infty
@@ -263,7 +262,7 @@ mark_begins marks.Minus = refl
 mark_begins marks.Tilde = refl
 mark_begins _ = tt
 
--- An operator of rank k that is found is the kind that the grammar gives it.
+-- The operator that is found is of rank `k` and of this kind.
 abbrev FoundOp : ℕ → TokenKind → Option BinaryOp → Type 0
 FoundOp k kind None = Unit {0}
 FoundOp k kind (Some op) = ((ranks op).rank ≡ k) × (kind ≡ operator op)
@@ -308,7 +307,7 @@ found_ranked k kind (Some op) h = pick (eqb (ranks op).rank k) refl
     pick true e = (eqb-true _ _ e, h)
     pick false e = tt
 
--- All operators of a rank have their left operand alike.
+-- All operators of one rank have the same limit for their left operand.
 left_by : ℕ → ℕ
 left_by zero = 0
 left_by (suc zero) = 1
@@ -402,7 +401,7 @@ module _ (self : Reader) (good : Good self) where
   right_joined true k left before ts fits h = good (More k left) ts before (fits refl)
   right_joined false k left before ts fits h = ([], refl, rw (append-nil before) h)
 
-  -- before, the operator and the right operand
+  -- `before`, the operator and the right operand.
   both : (op : BinaryOp) (left right : Expression) (t : Token) (before text : List Token) (k : ℕ) → (ranks op).rank ≤ k → IsExpr left (ranks op).left before → IsExpr right (ranks op).right text → t.kind ≡ operator op → IsExpr (Expression.binary op left right t.span) k (before ++ (t ∷ text))
   both op left right t before text k within hl hr kind =
       (within, (before, t ∷ text, hl, (t ∷ [], text, ap (λ z. at z t.span ∷ []) kind, hr, refl), refl))

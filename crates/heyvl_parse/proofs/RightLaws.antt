@@ -61,7 +61,7 @@ expr_laws n = record {
 pub some_full : Some_text IsFull
 some_full = some_expr 9
 
--- Kinds with which no expression begins.
+-- The kinds that begin no expression.
 abbrev pub IsBarred : (TokenKind → Bool) → Type 0
 IsBarred test = (k : TokenKind) → test k ≡ true → (s : Span) (ts : List Token) (n : ℕ) → reading (suc n) Whole (at k s ∷ ts) ≡ Bad (at k s ∷ ts)
 
@@ -99,7 +99,6 @@ some_arguments = ([], at (kinds.Mark marks.ParenLeft) nowhere ∷ (at (kinds.Mar
 pub call_laws : (n : ℕ) → Laws n (λ p. IsCall p.0 p.1) no_kind (call n)
 call_laws n = pair_free (word_laws n) (arguments_laws n) some_arguments
 
--- A text and then a token.
 pub some_trail : {A : Type 0} {P : A → List Token → Type 0} (kind : TokenKind) → Some_text P → Some_text (λ x. P x then IsOne kind)
 some_trail kind (x, text, p) = (x, text ++ (at kind nowhere ∷ []), (text, at kind nowhere ∷ [], p, (nowhere, refl), refl))
 
@@ -115,7 +114,6 @@ some_enclosed = some_lead (kinds.Mark marks.ParenLeft) (some_trail (kinds.Mark m
 abbrev pub IsTwo : Expression × Expression → List Token → Type 0
 IsTwo p = IsMark marks.ParenLeft then IsFull p.0 then IsMark marks.Comma then IsFull p.1 then IsMark marks.ParenRight
 
--- What stands behind an expression and begins with a token that is no operator.
 pub ended_by : (P : List Token → Type 0) (stop : TokenKind → Bool) (kind : TokenKind) → stop kind ≡ false → (text rest : List Token) → (IsOne kind then P) text → starts stop (text ++ rest) ≡ false
 ended_by P stop kind free text rest (one, two, (s, h), p, e) = rw (e, h) free
 
@@ -149,7 +147,7 @@ weights_laws n = lead_laws (mark_test marks.BraceLeft) (trail_laws (mark_test ma
 some_weights : Some_text IsWeights
 some_weights = some_lead (kinds.Mark marks.BraceLeft) (some_trail (kinds.Mark marks.BraceRight) (some_list some_weighted))
 
--- The three right sides that a key begins, and a call and an expression.
+-- The three right sides that a keyword begins, a call and an expression.
 abbrev Flipped : Expression → List Token → Type 0
 Flipped p = IsKey keys.Flip then IsMark marks.ParenLeft then IsFull p then IsMark marks.ParenRight
 
@@ -190,7 +188,7 @@ local_by n starts_as.Plain = local_mapped RightSide.plain (expr n) (expr_laws n)
 local_no_call : (n : ℕ) → Local (no_call n)
 local_no_call n = chosen_local right_start (right_by n) (no_call n) (λ ts. refl) (λ t r r'. refl) (local_by n)
 
--- A reader that takes a word where one stands at the front.
+-- A reader that takes a token if the tokens begin with an identifier.
 abbrev pub Within : {A : Type 0} → List Token → Read A → Type 0
 Within us (Got x r) = length r ≤ length us
 Within us (Bad r) = length r ≤ length us
@@ -215,7 +213,7 @@ within_local f us Out h = tt
 pub takes_word : {B : Type 0} (g : List Token → Read B) → Local g → Takes (pair word g)
 takes_word {B} g lg w s us = within_local (mapped (λ y. (w, y)) g) us (mapped (λ y. (w, y)) g us) (local_mapped (λ y. (w, y)) g lg us)
 
--- What is read behind an operand.
+-- The reading after an operand.
 tail : Reader → ℕ → Expression → List Token → Read Expression
 tail self zero e ts = Got e ts
 tail self (suc k) e ts = tail self k e ts >>= more self (suc k)
@@ -259,7 +257,7 @@ called_same : (b : Bool) (t : Token) (r r' : List Token) → called_behind b (t 
 called_same true t r r' = refl
 called_same false t r r' = refl
 
--- Which of two is read is told by the first token and, behind a word, by the second.
+-- The first two tokens decide which of two readers is used.
 pub call_local : {A : Type 0} (f g h : List Token → Read A) → ((ts : List Token) → h ts ≡ picked_by f g (is_call ts) ts) → Local f → Local g → Takes f → Takes g → Local h
 call_local {A} f g h is lf lg tf tg = local_same h (λ ts. picked_by f g (is_call ts) ts) is all
   where
@@ -318,11 +316,10 @@ local_rights n = call_local (mapped call_tree (call n)) (no_call n) (right n) sa
     same : (ts : List Token) → right n ts ≡ picked_by (mapped call_tree (call n)) (no_call n) (is_call ts) ts
     same ts = go ts (is_call ts)
 
--- The token at the front of what a token leads.
 pub led : (P : List Token → Type 0) (kind : TokenKind) (text rest : List Token) → (IsOne kind then P) text → (s : Span) × (back : List Token) × P back × (text ++ rest ≡ at kind s ∷ (back ++ rest))
 led P kind text rest (one, two, (s, h), p, e) = (s, two, p, ap (λ z. z ++ rest) (e ∙ ap (λ z. z ++ two) h))
 
--- Where a lone word stands before '(', the expression ends behind it.
+-- An identifier alone before `(` ends an expression.
 pub no_call_here : (a : Expression) (text rest : List Token) → IsFull a text → starts is_operator rest ≡ false → starts (is_mark marks.ParenLeft) rest ≡ false → is_call (text ++ rest) ≡ false
 no_call_here a text rest h quiet shut = go (text ++ rest) refl
   where
@@ -395,7 +392,7 @@ plain_start (t ∷ ts) e = go t.kind e
     go (kinds.Number n) e = refl
     go (kinds.Mark m) e = refl
 
--- The kinds that go on with a right side.
+-- The kinds that continue a right side.
 abbrev pub on_right : TokenKind → Bool
 on_right = either is_operator (is_mark marks.ParenLeft)
 

@@ -77,7 +77,6 @@ parts_laws n = record {
         let (s, back, inner, e) = led _ (kinds.Word (codes "ranking")) text rest h in
         at_start (text ++ rest) rule_starts.Ranking (rw e refl) ∙ rw ((ranking_laws n).complete p text rest h len quiet) refl
 
--- '@' and the parts of a rule.
 abbrev Ruled : RuleParts → List Token → Type 0
 Ruled p = IsMark marks.AtSign then IsParts p
 

@@ -1,4 +1,4 @@
--- The laws of the readers of the parts of statements that hold no block.
+-- The laws of the readers of the parts of statements without blocks.
 use Rattle.heyvl_parse.proofs.KeyLaws.{IsRewardWord, check_laws, havoc_laws, led_starts, reward_laws, type_laws}
 use Rattle.heyvl_parse.proofs.Lawful.{Both, Laws, each_laws, laws_same, lead_is, lead_laws, list_laws, local_front, mapped_laws, optional_laws, pair_free, pair_laws, some_both, some_list}
 use Rattle.heyvl_parse.proofs.Local.{Local, local_bind, local_mapped}
@@ -26,7 +26,7 @@ given_laws n = lead_laws (mark_test marks.Assign) (right_laws n) some_right
 some_given : Some_text IsGiven
 some_given = some_lead (kinds.Mark marks.Assign) some_right
 
--- 'var' W ':' type ('=' right)?
+-- `'var' W ':' type ('=' right)?`
 abbrev pub Declared : List ℕ × (TypeName × Option RightSide) → List Token → Type 0
 Declared p = IsKey keys.Var then IsName p.0 then IsMark marks.Colon then IsType p.1.0 then IsOptional IsGiven p.1.1
 
@@ -43,7 +43,7 @@ declared_laws n =
     (some_lead (kinds.Mark marks.Colon) (some_both some_type some_missing)))
     (some_both some_word (some_lead (kinds.Mark marks.Colon) (some_both some_type some_missing)))
 
--- list(W) '=' right  |  W '(' list0(expr) ')'
+-- `list(W) '=' right  |  W '(' list0(expr) ')'`
 abbrev pub Assigned : List (List ℕ) × RightSide → List Token → Type 0
 Assigned p = IsAssign p.0 p.1
 

@@ -1,4 +1,4 @@
--- Tokens that should spell one thing have at most one first fault, and none where they spell it.
+-- Tokens that have to spell one thing have at most one first error, and none if they spell it.
 use Rattle.heyvl_parse.specs.Files.{IsParseMemory, IsThisParseStop}
 use Rattle.heyvl_parse.specs.Laws.{ExpressionIsUnique}
 use Rattle.heyvl_parse.specs.Spellings.{IsExpressionFault, IsExpressionStop, IsSpellingFault}

@@ -1,4 +1,4 @@
--- The laws of the reader of a statement, from those of blocks.
+-- The laws of the reader of statements, from those of blocks.
 use Rattle.heyvl_parse.proofs.BranchLaws.{IsIfParts, IsLooped, IsOther, if_laws, looped_laws, then_back}
 use Rattle.heyvl_parse.proofs.KeyLaws.{validate_laws}
 use Rattle.heyvl_parse.proofs.Lawful.{Both, Laws, chosen_local, either_first, either_second, laws_stop, local_refuse}
@@ -30,7 +30,7 @@ use Rattle.heyvl_syntax.specs.declared.tokens.TokenKind.TheVariants as kinds
 use Rattle.heyvl_syntax.specs.declared.tokens.TokenKind.{TokenKind}
 use Rattle.std.proofs.Common.{Bool, List, [], ap, false, inl, inr, length, refl, subst, sym, true, ◌++◌, ◌<◌, ◌∙◌, ◌∷◌, ◌≡◌, ℕ}
 
--- The kinds that go on with some statement.
+-- The kinds that continue some statement.
 abbrev pub on_stmt : TokenKind → Bool
 on_stmt = either on_right (either (is_mark marks.Comma) (either (is_mark marks.Assign) (is_key keys.Else)))
 
@@ -139,7 +139,7 @@ module _ (n : ℕ) (block : BlockReader) (lb : Laws n IsBlock no_kind block) whe
   havoc_opens true = refl
   havoc_opens false = refl
 
-  -- Which statement begins with the token that begins its text.
+  -- The first token of a text determines the statement.
   opening_of : (x : Statement) (text rest : List Token) → IsStmt x text → (o : Opening) × (opening (text ++ rest) ≡ o) × (opens o ≡ true) × (length (text ++ rest) < n → starts on_stmt rest ≡ false → stmt_by n block o (text ++ rest) ≡ Got x rest)
   opening_of (Statement.var x t r p) text rest (h, place) =
       let (s, back, inner, e) = led _ (kinds.Key keys.Var) text rest h in

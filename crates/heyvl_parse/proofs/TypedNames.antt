@@ -1,4 +1,4 @@
--- What is read behind a name with its type.
+-- Reading a name with its type and what follows it.
 use Rattle.heyvl_parse.proofs.SequelLaws.{both}
 use Rattle.heyvl_parse.specs.readers.Combinators.{lead, sign, trail}
 use Rattle.heyvl_parse.specs.readers.ReadParts.{Bad, Got, Out, Read, Reader, Whole, bound, bound_tree, end_of, expect, is_mark, pair, reach, type_name, word, ◌>>=◌}
@@ -9,11 +9,9 @@ use Rattle.heyvl_syntax.specs.declared.tokens.Token.{Token}
 use Rattle.heyvl_syntax.specs.declared.types.TypeName.{TypeName}
 use Rattle.std.proofs.Common.{Bool, List, refl, ◌≡◌, ℕ}
 
--- A name and its type.
 abbrev pub typed : List Token → Read (List ℕ × TypeName)
 typed ts = pair word (lead (is_mark marks.Colon) type_name) ts
 
--- A name, its type and what stands behind them.
 abbrev pub three : {B : Type 0} → List ℕ × TypeName → B → List Token → Read (List ℕ × (TypeName × B))
 three p y r = Got (p.0, (p.1, y)) r
 
@@ -45,7 +43,6 @@ pub typed_then : {B : Type 0} (g : List Token → Read B) (ts : List Token) →
     pair word (lead (is_mark marks.Colon) (pair type_name g)) ts ≡ (typed ts >>= λ p r. g r >>= λ y q. three p y q)
 typed_then g ts = with_word (word ts) g
 
--- The expression behind a quantifier.
 abbrev pub tree : Bool → Span → List ℕ × TypeName → Expression → List Token → Read Expression
 tree up s p a r = Got (Expression.bound up p.0 p.1 a (reach s (end_of a))) r
 

@@ -1,4 +1,5 @@
--- Readers of all tokens, for each amount of fuel: what they give is all that is spelled, and where they refuse tokens, nothing goes on.
+-- Readers of all tokens, for all fuel: they give all that is spelled, and refuse tokens where
+-- nothing goes on.
 use Rattle.heyvl_parse.proofs.Lawful.{Laws}
 use Rattle.heyvl_parse.proofs.Local.{Local, LocalAt, local_bind}
 use Rattle.heyvl_parse.proofs.Right.{Right, RightAt, right_bind}
@@ -15,7 +16,6 @@ use Rattle.std.proofs.Common.{Bool, Err, IfErr, IfOk, List, Ok, Result, [], ap, 
 use Rattle.std.proofs.Math.Seq.{take-append-add, take-append_seam}
 use Rattle.std.proofs.lemmas.List.{append-nil}
 
--- Every token would go on with it.
 abbrev pub every_kind : TokenKind → Bool
 every_kind kind = true
 
@@ -23,7 +23,6 @@ ended_local : {A : Type 0} (x : A) → Local (ended x)
 ended_local x [] = ([], refl, λ t r0 r' eq. cc)
 ended_local x (t ∷ ts) = ([], refl, λ u r0 r' eq. refl)
 
--- What is read at the front, with nothing behind it.
 pub ended_laws : {A : Type 0} {n : ℕ} {P : A → List Token → Type 0} {stop : TokenKind → Bool} {f : List Token → Read A} → Laws n P stop f → Laws n P every_kind (λ ts. f ts >>= ended)
 ended_laws {A} {n} {P} {stop} {f} lf = record { right = rights; local = local_bind f ended lf.local ended_local; complete = done }
   where
@@ -38,11 +37,9 @@ ended_laws {A} {n} {P} {stop} {f} lf = record { right = rights; local = local_bi
     done x text [] h len quiet = rw (lf.complete x text [] h len refl) refl
     done x text (t ∷ ts) h len quiet = cc
 
--- Where something follows what is read, all is refused there.
 pub ended_bad : {A : Type 0} (f : List Token → Read A) (ts r rs : List Token) (t : Token) (x : A) → f ts ≡ Got x r → r ≡ t ∷ rs → (f ts >>= ended) ≡ Bad r
 ended_bad f ts r rs t x e same = rw (e, same) refl
 
--- Where nothing follows it, it is what all spell.
 pub ended_good : {A : Type 0} (f : List Token → Read A) (ts r : List Token) (x : A) → f ts ≡ Got x r → length r ≡ 0 → (f ts >>= ended) ≡ Got x []
 ended_good f ts [] x e none = rw e refl
 ended_good f ts (t ∷ rs) x e none = absurd (omega arith)
@@ -51,7 +48,6 @@ pub ended_fails : {A : Type 0} (e : PartStop) (f : List Token → Read A) (ts : 
 ended_fails (Memory error) f ts fails = tt
 ended_fails (Fault left) f ts (r, bad, len) = (r, rw bad refl, len)
 
--- What stands before a fault begins something.
 begun : {A : Type 0} (P : A → List Token → Type 0) (ts r : List Token) (i : ℕ) → i + length r ≡ length ts → Right P ts (Bad r) → IsBeginning P (take i ts)
 begun P ts r i sum (text, more, x, whole, h) =
     let at_text : i ≡ length text = omega (arith, ap length whole, length-append text r) in

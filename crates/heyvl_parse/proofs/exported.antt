@@ -1,4 +1,4 @@
--- The lemmas that crates above may cite. All other proofs are private.
+-- The lemmas that other crates may cite. All other proofs are private.
 pub mod Loops
 pub mod Readers
 pub mod Spellings

@@ -1,4 +1,4 @@
--- For crates above. The laws of readers, and how they go over to what is put together from readers.
+-- For other crates: the laws of readers, and of their combinations.
 pub use Rattle.heyvl_parse.proofs.BranchLaws.{then_back}
 pub use Rattle.heyvl_parse.proofs.KeyLaws.{OfKind, kind_laws, led_starts}
 pub use Rattle.heyvl_parse.proofs.Lawful.{Both, IsTest, Laws, apart, chosen_local, each_laws, laws_less, laws_same, laws_stop, lead_laws, lead_more, local_refuse, mapped_laws, pair_free, pair_laws, sign_laws, some_both, some_each, starts_front, starts_same, trail_laws}

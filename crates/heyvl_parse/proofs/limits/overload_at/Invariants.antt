@@ -4,7 +4,7 @@ use Rattle.heyvl_syntax.specs.Load.{loads, overload}
 use Rattle.std.proofs.Common.{drop, ltb, ◌+◌, ◌≡◌, ◌≤◌}
 use Rattle.std.specs.List.{position_or_len}
 
--- No token so far is above the limit, and the counts are those after them.
+-- The load is within the limit after each token so far.
 abbrev pub invariant-tokens : goal.invariant-tokens
 invariant-tokens l = record {
   counted : IsCounted l.counts;

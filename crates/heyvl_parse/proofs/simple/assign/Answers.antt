@@ -14,7 +14,6 @@ use Rattle.heyvl_syntax.proofs.exported.PlainTreesAre.{plain_statements}
 use Rattle.heyvl_syntax.specs.Statements.{statement}
 use Rattle.heyvl_syntax.specs.declared.statements.Right.TheVariants as rights
 
--- The targets and then the right side.
 tied : (targets : List (List ℕ)) (ts : List Token) (read : Read RightSide) → ((read >>= λ y r. Got (targets, y) r) >>= λ p r. Got (assign_tree p (extent (taken ts r))) r) ≡ valued targets ts read
 tied targets ts (Got x r) = refl
 tied targets ts (Bad r) = refl
