@@ -1,4 +1,4 @@
--- The bytes of blocks and of the statements that hold some, one part behind another.
+-- The bytes of blocks and of the statements with blocks, part by part.
 use Rattle.heyvl_places.specs.declared.checks.CheckKind.{CheckKind}
 use Rattle.heyvl_places.specs.declared.spans.Span.{Span}
 use Rattle.heyvl_print.proofs.Texts.{after, margin_after, text_append, text_margin, token_after}
@@ -66,7 +66,7 @@ block_append n [] ys = refl
 block_append n (x ∷ xs) ys =
     rw (text_append (statement_lines n x) (block_lines n (block_of (xs ++ ys))), block_append n xs ys, text_append (statement_lines n x) (block_lines n (block_of xs))) (sym (append_assoc (text_of (statement_lines n x)) (text_of (block_lines n (block_of xs))) (text_of (block_lines n (block_of ys)))))
 
--- One more statement, at the place k of a list that is mapped.
+-- One more statement, at the index `k` of a mapped list.
 pub statement_next : {B : Type 0} (g : B → Statement) (n : ℕ) (xs : List B) (k : ℕ) (x : B) (t0 t1 t2 : List ℕ) → k < length xs → x ≡ get_or xs k x →
     t1 ≡ t0 ++ text_of (block_lines n (block_of (map g (take k xs)))) → t2 ≡ t1 ++ text_of (statement_lines n (g x)) → t2 ≡ t0 ++ text_of (block_lines n (block_of (map g (take (k + 1) xs))))
 statement_next {B} g n xs k x t0 t1 t2 less is e h =
@@ -77,7 +77,6 @@ statement_next {B} g n xs k x t0 t1 t2 less is e h =
 pub block_done : {B : Type 0} (g : B → Statement) (n : ℕ) (xs : List B) (k : ℕ) (t0 t1 : List ℕ) → length xs ≤ k → t1 ≡ t0 ++ text_of (block_lines n (block_of (map g (take k xs)))) → t1 ≡ t0 ++ text_of (block_lines n (block_of (map g xs)))
 block_done g n xs k t0 t1 over h = rw (← take_all k xs over) h
 
--- The pieces of an arm.
 abbrev pub pieces_of : ℕ → Expression × Block → List Piece
 pieces_of n a = arm_pieces n a.0 (block_lines (n + 2) a.1)
 

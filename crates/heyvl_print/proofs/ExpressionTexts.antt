@@ -1,4 +1,4 @@
--- The bytes of each variant of an expression, one part behind another.
+-- The bytes of each kind of expression, part by part.
 use Rattle.heyvl_places.specs.declared.spans.Span.{Span}
 use Rattle.heyvl_print.proofs.Texts.{text_append}
 use Rattle.heyvl_print.specs.Canonical.{expression_pieces}

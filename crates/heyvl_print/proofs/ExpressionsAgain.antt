@@ -30,7 +30,7 @@ use Rattle.std.proofs.Common.{Bool, List, [], ap, append_assoc, arith, false, no
 use Rattle.std.proofs.lemmas.Bool.Decides.{nat_tests}
 use Rattle.std.specs.Char.{is_ascii_digit}
 
--- A mark that nothing makes longer, before and behind an item.
+-- A symbol that no next byte extends, before and after an item.
 pub r_free : {A B : Type 0} {test : List ℕ → Bool} {e : A → B} {P : A → List Token → Type 0} {x : A} {ps : List Piece} (m : Mark) → is_free m ≡ true →
     Reprints test e P x ps → Reprints test e (λ y. IsMark m then P y) x (token (kinds.Mark m) ∷ ps)
 r_free {ps = ps} m free one = r_token (kinds.Mark m) (λ p rest passes. free_reads m (text_of (ps ++ rest)) free) one
@@ -39,7 +39,7 @@ pub r_shut : {A B : Type 0} {test test' : List ℕ → Bool} {e : A → B} {P : 
     ((rest : List Piece) → test (text_of (token (kinds.Mark m) ∷ rest)) ≡ true) → Reprints test e P x ps → Reprints test' e (λ y. P y then IsMark m) x (ps ++ token (kinds.Mark m) ∷ [])
 r_shut m free starts one = r_closed (kinds.Mark m) (λ p rest passes. free_reads m (text_of rest) free) starts one
 
--- A key or a word, before an item that begins with neither a letter nor a digit.
+-- A keyword or an identifier, before an item that begins with neither a letter nor a digit.
 pub r_key : {A B : Type 0} {test : List ℕ → Bool} {e : A → B} {P : A → List Token → Type 0} {x : A} {ps : List Piece} (k : Key) →
     ((rest : List Piece) → test (text_of rest) ≡ true → ends_word (text_of (ps ++ rest)) ≡ true) → Reprints test e P x ps → Reprints test e (λ y. IsKey k then P y) x (token (kinds.Key k) ∷ ps)
 r_key {ps = ps} k ends one = r_token (kinds.Key k) (λ p rest passes. key_reads k (text_of (ps ++ rest)) (ends rest passes)) one
@@ -52,7 +52,7 @@ ends_both : (bs : List ℕ) → ends_number bs ≡ true → ends_word bs ≡ tru
 ends_both [] h = refl
 ends_both (b ∷ bs) h = and_left (not (is_word_byte b)) (not (is_point b)) h
 
--- A key or a word alone.
+-- A keyword or an identifier alone.
 pub r_key_alone : (k : Key) → Reprints {A = Unit {0}} {B = Unit {0}} ends_number (λ y. y) (λ y. IsKey k) tt (token (kinds.Key k) ∷ [])
 r_key_alone k = r_one (kinds.Key k) (λ p rest passes. key_reads k (text_of rest) (ends_both (text_of rest) passes))
 
@@ -64,7 +64,7 @@ pub in_parens : {A B : Type 0} {test : List ℕ → Bool} {e : A → B} {P : A �
     Reprints test e (λ y. IsMark marks.ParenLeft then P y then IsMark marks.ParenRight) x (parens ps)
 in_parens one = r_free marks.ParenLeft refl (r_shut marks.ParenRight refl (λ rest. refl) one)
 
--- Before a comma and an item, and before two.
+-- An item before a comma and another item, and before two of them.
 pub r_comma : {A A' B B' : Type 0} {test : List ℕ → Bool} {e : A → A'} {f : B → B'} {P : A → List Token → Type 0} {Q : B → List Token → Type 0} {x : A} {z : B} {ps qs : List Piece} →
     Reprints ends_number e P x ps → Reprints test f Q z qs →
     Reprints {A = A × B} {B = A' × B'} test (λ p. (e p.0, f p.1)) (λ p. P p.0 then IsMark marks.Comma then Q p.1) (x, z) (ps ++ token (kinds.Mark marks.Comma) ∷ blank ∷ qs)
@@ -89,7 +89,7 @@ operator_reads ops.Minus rest = refl
 operator_reads ops.Star rest = refl
 operator_reads ops.Slash rest = refl
 
--- The first byte of an expression doesn't make a prefix longer.
+-- The first byte of an expression does not extend a prefix operator.
 letter_opens : (b : ℕ) (bs : List ℕ) → is_letter b ≡ true → opens (b ∷ bs) ≡ true
 letter_opens b bs h = grind (arith, nat_tests)
 

@@ -1,4 +1,4 @@
--- The canonical text of a file spells it again.
+-- The canonical text of a file spells the same file.
 use Rattle.heyvl_print.proofs.LexedPieces.{Sound, lexes_pieces, tokens_at}
 use Rattle.heyvl_print.proofs.ProceduresAgain.{file_again}
 use Rattle.heyvl_print.proofs.TreePieces.{kinds_of, token_kinds}

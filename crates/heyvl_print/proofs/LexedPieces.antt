@@ -1,4 +1,4 @@
--- Pieces of which each token is what stands at its place are split into these tokens.
+-- The lexer splits the bytes of sound pieces into the tokens of these pieces.
 use Rattle.heyvl_print.specs.Pieces.{Piece, blank, line_feed, text_of, token, token_text}
 use Rattle.heyvl_syntax.proofs.exported.Steps.{made}
 use Rattle.heyvl_syntax.proofs.exported.TokenReads.{Reads, lexes_read}
@@ -6,14 +6,14 @@ use Rattle.heyvl_syntax.specs.Tokens.{Lexes, white}
 use Rattle.heyvl_syntax.specs.declared.tokens.Token.{Token}
 use Rattle.std.proofs.Common.{List, [], length, refl, ◌+◌, ◌∷◌, ℕ}
 
--- Each token is what stands at the front of its bytes and those behind it.
+-- Each token is the first one that the lexer finds at its bytes.
 abbrev pub Sound : List Piece → Type 0
 Sound [] = Unit {0}
 Sound (blank ∷ ps) = Sound ps
 Sound (line_feed ∷ ps) = Sound ps
 Sound (token kind ∷ ps) = Reads kind (token_text kind) (text_of ps) × Sound ps
 
--- The tokens among the pieces, with their places, where the pieces begin at a place.
+-- The tokens of the pieces with their places, from `place` on.
 abbrev pub tokens_at : ℕ → List Piece → List Token
 tokens_at place [] = []
 tokens_at place (blank ∷ ps) = tokens_at (place + 1) ps

@@ -1,4 +1,4 @@
--- The bytes of lines, rules and right sides, one part behind another.
+-- The bytes of lines, rules and right sides, part by part.
 use Rattle.heyvl_print.proofs.Texts.{after, text_append, text_margin}
 use Rattle.heyvl_print.specs.Canonical.{call_pieces, expression_pieces, given_pieces, post_line, pre_line, right_pieces, rule_line, rule_pieces, statement_lines, target_pieces, weighted_pieces}
 use Rattle.heyvl_print.specs.Pieces.{comma, key, mark, separated, space, text_of, word, ◌then◌}

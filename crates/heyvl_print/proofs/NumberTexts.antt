@@ -1,4 +1,4 @@
--- The bytes of a number, by how many of its digits stand behind the point.
+-- The bytes of a number, by the number of digits after its point.
 use Rattle.heyvl_print.specs.Numbers.{number_text, padded, pointed}
 use Rattle.heyvl_syntax.specs.declared.literals.Lit.{Lit}
 use Rattle.std.proofs.Common.{List, [], append_assoc, arith, drop, false, length, refl, replicate, suc, take, unsigned_abs, ◌++◌, ◌+◌, ◌-◌, ◌<◌, ◌==◌, ◌∷◌, ◌≡◌, ◌≤◌, ◌^◌, ℕ}
@@ -32,7 +32,7 @@ short_text places digits some h =
     let len : length (replicate (suc (places - length digits)) 48 ++ digits) - places ≡ 1 = omega (arith, length-append (replicate (suc (places - length digits)) 48) digits, length-replicate {A = ℕ} (suc (places - length digits)) 48) in
     rw (zeros, no_zero places some, len) refl
 
--- What has been put behind a text, where these are the number's digits.
+-- The bytes that the program appends are the text of the number.
 pub prints_whole : (lit : Lit) (digits t0 t1 : List ℕ) → digits ≡ decimal (unsigned_abs lit.digits) → unsigned_abs lit.digits ≤ 2 ^ 127 → lit.places ≡ 0 → t1 ≡ t0 ++ digits → t1 ≡ t0 ++ number_text lit
 prints_whole lit digits t0 t1 d h z e = rw (e, d, whole_text lit.places (decimal (unsigned_abs lit.digits)) z (decimal_some (unsigned_abs lit.digits) h)) refl
 

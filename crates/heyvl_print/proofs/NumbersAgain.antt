@@ -1,4 +1,4 @@
--- The text of a number is read as this number again.
+-- The text of a number is read as the same number.
 use Rattle.heyvl_print.specs.Numbers.{number_text, padded, pointed}
 use Rattle.heyvl_syntax.proofs.exported.Digits.{other_stays}
 use Rattle.heyvl_syntax.proofs.exported.Runs.{and_left, and_right, run_ends, run_stops}
@@ -17,7 +17,7 @@ use Rattle.std.specs.Char.{is_ascii_digit}
 use Rattle.std.specs.Fmt.{decimal}
 use Rattle.std.specs.List.{list_all, position_or_len}
 
--- These digits write the number, and end in its last digit.
+-- `digits` are the decimal digits of `n`, possibly after zeros, and end in the last digit of `n`.
 pub record Writes (n : ℕ) (digits : List ℕ) : Type 0 where
   pub value : number digits ≡ n
   pub all : list_all is_ascii_digit digits ≡ true
@@ -53,7 +53,6 @@ more_digits n digits h w = record {
 pub decimal_writes : (n : ℕ) → n < 10 ^ 64 → Writes n (decimal n)
 decimal_writes n h = decimal_by_steps_wide Writes one_digit more_digits n h
 
--- With zeros before them, too.
 zeros_value : (k : ℕ) (digits : List ℕ) → number (replicate k 48 ++ digits) ≡ number digits
 zeros_value zero digits = refl
 zeros_value (suc k) digits = zeros_value k digits
@@ -70,7 +69,7 @@ zeros_write k n digits w = record {
   ends = ap (λ (z : List ℕ). replicate k 48 ++ z) w.ends ∙ sym (append_assoc (replicate k 48) w.front ((48 + n % 10) ∷ []));
 }
 
--- Without a point, and with one.
+-- Numbers without a point, and with a point.
 no_point : (b : ℕ) → is_ascii_digit b ≡ true → not (is_point b) ≡ true
 no_point b h = grind (arith, nat_tests)
 
@@ -88,7 +87,7 @@ all_right : (xs ys : List ℕ) → list_all is_ascii_digit (xs ++ ys) ≡ true �
 all_right [] ys h = h
 all_right (x ∷ xs) ys h = all_right xs ys (and_right (is_ascii_digit x) (list_all is_ascii_digit (xs ++ ys)) h)
 
--- What a number's text is taken apart into.
+-- The parts of the text of a number.
 record Shape (text : List ℕ) (n places : ℕ) : Type 0 where
   is_number : IsNumber text
   value : number (whole text ++ fraction text) ≡ n

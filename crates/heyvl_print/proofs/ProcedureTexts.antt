@@ -1,4 +1,4 @@
--- The bytes of procedures, one part behind another.
+-- The bytes of procedures, part by part.
 use Rattle.heyvl_print.proofs.Texts.{after, name_text, token_after}
 use Rattle.heyvl_print.specs.Canonical.{block_lines, body_lines, params_pieces, head_line, note_line, param_pieces, post_line, pre_line, procedure_lines}
 use Rattle.heyvl_print.specs.Pieces.{Piece, comma, each, feed, key, mark, separated, space, text_of, word, ◌then◌}

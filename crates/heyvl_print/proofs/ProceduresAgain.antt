@@ -37,7 +37,7 @@ body_again (Some b) =
     (r_free marks.BraceLeft refl (r_feed (r_made (λ y us. y.0) (λ y us g. g) (λ y us g. ap (λ z. z.0) g) (λ ts g. g)
     (r_both (block_again 2 b) (λ rest passes. refl) (r_line (λ rest. refl) (r_one {test = ends_number} (kinds.Mark marks.BraceRight) (λ p rest passes. free_reads marks.BraceRight (text_of rest) refl)))))))
 
--- The clauses, the pres before the posts.
+-- The clauses, the pre clauses first.
 abbrev Pre : Expression → List Token → Type 0
 Pre a = IsKey keys.Pre then IsFull a
 
@@ -87,7 +87,7 @@ then_back P Q R ts (xs, ys, p, (us, vs, q, r, d), e) = (xs ++ us, vs, (xs, us, p
 inside : (P Q R : List Token → Type 0) → ((ts : List Token) → Q ts → R ts) → (ts : List Token) → (P then Q) ts → (P then R) ts
 inside P Q R f ts (xs, ys, p, q, e) = (xs, ys, p, f ys q, e)
 
--- The head, in groups.
+-- The head, with its parts grouped.
 abbrev Parens : List Param → List Token → Type 0
 Parens ps = IsMark marks.ParenLeft then IsList0 IsParam ps then IsMark marks.ParenRight
 

@@ -15,7 +15,7 @@ use Rattle.heyvl_syntax.specs.declared.types.TypeName.TheVariants as types
 use Rattle.std.proofs.Common.{List, None, Some, [], codes, false, pos, refl, true, ◌∷◌, ◌≡◌, ℕ}
 use Rattle.std.specs.Fmt.{digits}
 
--- Numbers.
+-- Numbers
 lit : ℕ → ℕ → Lit
 lit digits places = record { digits = pos digits; places = places }
 
@@ -35,7 +35,7 @@ inner_zeros_are : number_text (lit 100203 4) ≡ codes "10.0203"
 unfolding digits lit
 inner_zeros_are = refl
 
--- Small trees.
+-- Small trees
 name : List ℕ → Expression
 name x = Expression.name x no_place
 
@@ -48,7 +48,7 @@ a = name (codes "a")
 b : Expression
 b = name (codes "b")
 
--- coproc coin()->(b:Bool)pre 0.50 post[b]{b=flip(1/2);}
+-- `coproc coin()->(b:Bool)pre 0.50 post[b]{b=flip(1/2);}`
 coin : List Procedure
 coin =
     record {
@@ -67,7 +67,7 @@ coin_is : canonical_text coin ≡ codes "coproc coin() -> (b: Bool)\n  pre 0.5\n
 unfolding digits lit name number b coin
 coin_is = refl
 
--- An empty file prints nothing.
+-- An empty file has an empty text.
 nothing_is : canonical_text [] ≡ []
 nothing_is = refl
 
@@ -82,7 +82,7 @@ pair_is : canonical_text pair ≡ codes "@wlp\nproc f(x: UInt, y: EUReal) -> ()\
 unfolding name a b pair
 pair_is = refl
 
--- Expressions.
+-- Expressions
 quantifiers_are :
     text_of (expression_pieces (Expression.bound true (codes "x") types.Int (Expression.bound false (codes "y") types.Bool (Expression.embed a no_place) no_place) no_place))
     ≡ codes "sup x: Int. inf y: Bool. ?(a)"
@@ -101,7 +101,7 @@ choice_is :
 unfolding digits lit name number a b
 choice_is = refl
 
--- Right sides.
+-- Right sides
 choose_is :
     text_of (right_pieces (RightSide.choose ((Expression.binary ops.Slash (number 1) (number 2) no_place, a) ∷ (Expression.binary ops.Slash (number 1) (number 2) no_place, b) ∷ [])))
     ≡ codes "choose { 1 / 2: a, 1 / 2: b }"
@@ -112,7 +112,7 @@ unif_is : text_of (right_pieces (RightSide.unif a b)) ≡ codes "unif(a, b)"
 unfolding name a b
 unif_is = refl
 
--- Statements: further arms, and an else that is always printed.
+-- Statements: further arms, and an `else` that is always printed.
 one_line : Block
 one_line = Block.next (Statement.reward a no_place) Block.done
 

@@ -1,4 +1,4 @@
--- The canonical text doesn't depend on places.
+-- The canonical text does not depend on places.
 use Rattle.heyvl_print.proofs.FilesAgain.{spells}
 use Rattle.heyvl_print.specs.Canonical.{block_lines, body_lines, else_if_pieces, expression_pieces, file_lines, given_pieces, if_pieces, param_pieces, post_line, pre_line, procedure_lines, right_pieces, rule_line, rule_pieces, statement_lines, weighted_pieces}
 use Rattle.heyvl_print.specs.Laws.{PrintingIsStable, TextIgnoresPlaces}

@@ -17,7 +17,6 @@ use Rattle.heyvl_syntax.specs.declared.tokens.Token.{Token}
 use Rattle.heyvl_syntax.specs.declared.tokens.TokenKind.TheVariants as kinds
 use Rattle.std.proofs.Common.{Bool, List, None, Option, Some, [], ap, append_assoc, codes, inl, inr, map, refl, subst, sym, true, ◌++◌, ◌+◌, ◌∙◌, ◌∷◌, ◌≡◌, ℕ}
 
--- No token.
 no_tokens : (us : List Token) → token_kinds us ≡ [] → us ≡ []
 no_tokens [] h = refl
 no_tokens (u ∷ us) h = absurd (cc)
@@ -28,7 +27,7 @@ nothing {x = x} spells = record { flows = λ rest passes sound. sound; again = �
 pub r_nothing : {A B : Type 0} {test : List ℕ → Bool} {e : A → B} {P : A → List Token → Type 0} {x : A} → ((us : List Token) → us ≡ [] → P x us) → Reprints test e P x []
 r_nothing spells = record { from = λ ts h p. nothing spells }
 
--- Items with commas between.
+-- Items with commas between them.
 more_starts : {A : Type 0} (f : A → List Piece) (xs : List A) (rest : List Piece) → ends_number (text_of rest) ≡ true → ends_number (text_of (each (λ y. comma ++ f y) xs ++ rest)) ≡ true
 more_starts f [] rest h = h
 more_starts f (x ∷ xs) rest h = refl
@@ -48,7 +47,7 @@ pub list0_again : {A B : Type 0} {e : A → B} {P : A → List Token → Type 0}
 list0_again one [] = r_nothing (λ us h. h)
 list0_again {f = f} one (x ∷ xs) = r_made (λ y us. y.0 ∷ y.1) (λ y us g. g) (λ y us g. ap (λ z. z.0 ∷ z.1) g) (λ ts g. g) (r_both (one x) (more_starts f xs) (more_again one xs))
 
--- Lines, one behind another.
+-- Lines in sequence.
 pub each_again : {A B : Type 0} {e : A → B} {P : A → List Token → Type 0} {f : A → List Piece} → ((x : A) → Reprints any e P x (f x)) → (xs : List A) →
     Reprints any (map e) (IsEach P) xs (each f xs)
 each_again one [] = r_nothing (λ us h. h)
@@ -101,14 +100,14 @@ rule_again (LoopRule.ranking k i s) =
 rule_line_again : (n : ℕ) (r : LoopRule) → Reprints any bare_rule IsRule r (rule_line n r)
 rule_line_again n r = r_margin n (r_line (λ rest. refl) (rule_again r))
 
--- Blocks.
+-- Blocks
 braced_again : {A B : Type 0} {test : List ℕ → Bool} {e : A → B} {P : A → List Token → Type 0} {x : A} {lines : List Piece} (n : ℕ) → Reprints any e P x lines →
     Reprints test e (λ y. IsBraced (P y)) x (braced n lines)
 braced_again n one =
     r_blank (r_free marks.BraceLeft refl (r_feed (r_made (λ y us. y.0) (λ y us g. g) (λ y us g. ap (λ z. z.0) g) (λ ts g. g)
     (r_both one (λ rest passes. refl) (r_margin n (r_one (kinds.Mark marks.BraceRight) (λ p rest passes. free_reads marks.BraceRight (text_of rest) refl)))))))
 
--- Tokens of an else, where none was there.
+-- The tokens of an empty `else`, for a statement that had none.
 some_else : (b : Block) → b ≡ Block.done → (ts : List Token) × (IsKey keys.Else then IsBraced (IsStmts b)) ts × ArePrintable ts
 some_else Block.done h = (
   at (kinds.Key keys.Else) no_place ∷ at (kinds.Mark marks.BraceLeft) no_place ∷ at (kinds.Mark marks.BraceRight) no_place ∷ [],
@@ -117,7 +116,7 @@ some_else Block.done h = (
 )
 some_else (Block.next x xs) h = absurd (cc)
 
--- An else that is printed, also where none was there.
+-- The printed `else`, also of a statement that had none.
 else_again : (n : ℕ) (b : Block) (lines : List Piece) → Reprints any bare_block IsStmts b lines →
     Reprints any bare_block (λ y. IsElse y (IsBraced (IsStmts y))) b (else_pieces n lines)
 else_again n b lines one = record { from = λ ts h p. either ts h p }

@@ -1,4 +1,4 @@
--- The bytes of pieces that are put together.
+-- The bytes of combined pieces.
 use Rattle.heyvl_print.specs.Pieces.{Piece, comma, each, margin, piece_text, separated, text_of, token, token_text, word}
 use Rattle.heyvl_syntax.specs.declared.tokens.TokenKind.{TokenKind}
 use Rattle.std.proofs.Common.{List, [], ap, append_assoc, arith, codes, get_or, length, map, refl, replicate, subst, suc, sym, take, zero, ◌++◌, ◌+◌, ◌<◌, ◌≤◌, ◌∙◌, ◌∷◌, ◌≡◌, ℕ}
@@ -18,7 +18,7 @@ each_append f [] ys = refl
 each_append f (x ∷ xs) ys =
     rw (text_append (f x) (each f (xs ++ ys)), each_append f xs ys, text_append (f x) (each f xs)) (sym (append_assoc (text_of (f x)) (text_of (each f xs)) (text_of (each f ys))))
 
--- One more item, at the place k of a list that is mapped.
+-- One more item, at the index `k` of a mapped list.
 pub item_next : {A B : Type 0} (g : B → A) (f : A → List Piece) (xs : List B) (k : ℕ) (x : B) (t0 t1 t2 : List ℕ) → k < length xs → x ≡ get_or xs k x →
     t1 ≡ t0 ++ text_of (each f (map g (take k xs))) → t2 ≡ t1 ++ text_of (f (g x)) → t2 ≡ t0 ++ text_of (each f (map g (take (k + 1) xs)))
 item_next {B = B} g f xs k x t0 t1 t2 less is e h =
@@ -36,7 +36,7 @@ plain_item_next {A} f xs k x t0 t1 t2 less is e h =
 pub after_comma : (ps : List Piece) (t0 t1 t2 : List ℕ) → t1 ≡ t0 ++ codes ", " → t2 ≡ t1 ++ text_of ps → t2 ≡ t0 ++ text_of (comma ++ ps)
 after_comma ps t0 t1 t2 e f = rw (f, e) (append_assoc t0 (codes ", ") (text_of ps))
 
--- A list that isn't empty, printed with a separator.
+-- A nonempty list, printed with a separator.
 pub separated_text : {A B : Type 0} (g : B → A) (separator : List Piece) (f : A → List Piece) (x : B) (xs all : List B) (t0 t1 t2 : List ℕ) → all ≡ x ∷ xs →
     t1 ≡ t0 ++ text_of (f (g x)) → t2 ≡ t1 ++ text_of (each (λ y. separator ++ f y) (map g xs)) → t2 ≡ t0 ++ text_of (separated separator f (map g all))
 separated_text g separator f x xs all t0 t1 t2 is e h =
@@ -45,7 +45,7 @@ separated_text g separator f x xs all t0 t1 t2 is e h =
 pub name_text : (x t0 t1 : List ℕ) → t1 ≡ t0 ++ x → t1 ≡ t0 ++ text_of (word x)
 name_text x t0 t1 e = rw (append-nil x) e
 
--- The same, where all further items have been visited.
+-- A nonempty list, printed with a separator, after the loop over its other items.
 pub separated_done : {A B : Type 0} (g : B → A) (separator : List Piece) (f : A → List Piece) (x : B) (xs all : List B) (k : ℕ) (t0 t1 t2 : List ℕ) → all ≡ x ∷ xs → length xs ≤ k →
     t1 ≡ t0 ++ text_of (f (g x)) → t2 ≡ t1 ++ text_of (each (λ y. separator ++ f y) (map g (take k xs))) → t2 ≡ t0 ++ text_of (separated separator f (map g all))
 separated_done g separator f x xs all k t0 t1 t2 is over e h = separated_text g separator f x xs all t0 t1 t2 is e (rw (← take_all k xs over) h)
@@ -53,7 +53,7 @@ separated_done g separator f x xs all k t0 t1 t2 is over e h = separated_text g 
 pub each_done : {A B : Type 0} (g : B → A) (f : A → List Piece) (xs : List B) (k : ℕ) (t0 t1 : List ℕ) → length xs ≤ k → t1 ≡ t0 ++ text_of (each f (map g (take k xs))) → t1 ≡ t0 ++ text_of (each f (map g xs))
 each_done g f xs k t0 t1 over h = rw (← take_all k xs over) h
 
--- One list of pieces behind another.
+-- One list of pieces after another.
 pub after : (ps qs : List Piece) (t0 t1 t2 : List ℕ) → t1 ≡ t0 ++ text_of ps → t2 ≡ t1 ++ text_of qs → t2 ≡ t0 ++ text_of (ps ++ qs)
 after ps qs t0 t1 t2 e f = f ∙ ap (λ (z : List ℕ). z ++ text_of qs) e ∙ append_assoc t0 (text_of ps) (text_of qs) ∙ ap (λ (z : List ℕ). t0 ++ z) (sym (text_append ps qs))
 

@@ -1,4 +1,4 @@
--- How the pieces of a tree are put together, so that their tokens spell the same tree again.
+-- Combining pieces so that their tokens spell the same tree again.
 use Rattle.heyvl_print.proofs.LexedPieces.{Sound}
 use Rattle.heyvl_print.specs.Pieces.{Piece, blank, feed, line_feed, margin, text_of, token, token_text}
 use Rattle.heyvl_print.specs.Printable.{ArePrintable, IsPrintable}
@@ -19,17 +19,16 @@ kinds_of (token kind ∷ ps) = kind ∷ kinds_of ps
 abbrev pub token_kinds : List Token → List TokenKind
 token_kinds = map (λ t. t.kind)
 
--- The pieces of an item: each token is what stands at its place, where bytes stand behind that pass the test, and tokens of these
--- kinds spell the same item but for what e drops.
+-- `Prints test e P x ps`: before bytes that pass `test`, the lexer splits the pieces `ps` into
+-- their tokens, and tokens of these kinds spell an item that is `x` up to what `e` drops.
 pub record Prints {A B : Type 0} (test : List ℕ → Bool) (e : A → B) (P : A → List Token → Type 0) (x : A) (ps : List Piece) : Type 0 where
   pub flows : (rest : List Piece) → test (text_of rest) ≡ true → Sound rest → Sound (ps ++ rest)
   pub again : (us : List Token) → token_kinds us ≡ kinds_of ps → (y : A) × (e x ≡ e y) × P y us
 
--- The same of an item that tokens of some bytes spell.
+-- `Reprints test e P x ps`: `Prints test e P x ps` holds if printable tokens spell `x`.
 pub record Reprints {A B : Type 0} (test : List ℕ → Bool) (e : A → B) (P : A → List Token → Type 0) (x : A) (ps : List Piece) : Type 0 where
   pub from : (ts : List Token) → P x ts → ArePrintable ts → Prints test e P x ps
 
--- Any bytes.
 abbrev pub any : List ℕ → Bool
 any rest = true
 
@@ -57,7 +56,7 @@ pub printable_append : (xs ys : List Token) → ArePrintable xs → ArePrintable
 printable_append [] ys h k = k
 printable_append (x ∷ xs) ys h k = (h.0, printable_append xs ys h.1 k)
 
--- Tokens whose kinds are two lists are two lists.
+-- Tokens whose kinds are two lists, split in the same way.
 pub record Halves (us : List Token) (ks ls : List TokenKind) : Type 0 where
   pub front : List Token
   pub back : List Token
@@ -92,7 +91,7 @@ halves (u ∷ us) (k ∷ ks) ls h =
 pair_same : {A B : Type 0} {a b : A} {c d : B} → a ≡ b → c ≡ d → Path (A × B) (a, c) (b, d)
 pair_same {a = a} {b} {c} {d} e f = ap (λ z. (z, c)) e ∙ ap (λ z. (b, z)) f
 
--- One item behind another.
+-- One item after another.
 pub both : {A A' B B' : Type 0} {test test' : List ℕ → Bool} {e : A → A'} {f : B → B'} {P : A → List Token → Type 0} {Q : B → List Token → Type 0} {x : A} {z : B} {ps qs : List Piece} →
     Prints test e P x ps → Prints test' f Q z qs → ((rest : List Piece) → test' (text_of rest) ≡ true → test (text_of (qs ++ rest)) ≡ true) →
     Prints {A = A × B} {B = A' × B'} test' (λ p. (e p.0, f p.1)) (λ p. P p.0 then Q p.1) (x, z) (ps ++ qs)
@@ -131,7 +130,7 @@ pub margin_then : {A B : Type 0} {test : List ℕ → Bool} {e : A → B} {P : A
 margin_then zero one = one
 margin_then (suc n) one = blank_then (margin_then n one)
 
--- A line feed behind an item.
+-- A line feed after an item.
 pub ends_line : {A B : Type 0} {test : List ℕ → Bool} {e : A → B} {P : A → List Token → Type 0} {x : A} {ps : List Piece} → ((rest : List Piece) → test (10 ∷ text_of rest) ≡ true) →
     Prints test e P x ps → Prints any e P x (ps ++ feed)
 ends_line {ps = ps} line one = record {
@@ -152,7 +151,7 @@ one_token kind stands = record {
     single (u ∷ []) h = (tt, refl, (u.span, ap (λ (k : TokenKind). at k u.span ∷ []) (ap (first_kind kind) h)))
     single (u ∷ v ∷ us) h = let no = ap other_kinds h in absurd (cc)
 
--- The same for an item that is made of it.
+-- An item that is made of another one.
 pub remade : {A A' B B' : Type 0} {test : List ℕ → Bool} {e : A → A'} {f : B → B'} {P : A → List Token → Type 0} {Q : B → List Token → Type 0} {x : A} {z : B} {ps : List Piece}
     (made : A → List Token → B) → ((y : A) (us : List Token) → P y us → Q (made y us) us) → ((y : A) (us : List Token) → e x ≡ e y → f z ≡ f (made y us)) →
     Prints test e P x ps → Prints test f Q z ps
@@ -161,7 +160,7 @@ remade made spells keeps one = record {
   again = λ us h. let y = one.again us h in (made y.0 us, keeps y.0 us y.1, spells y.0 us y.2);
 }
 
--- The same of items that are spelled.
+-- One spelled item after another.
 pub r_both : {A A' B B' : Type 0} {test test' : List ℕ → Bool} {e : A → A'} {f : B → B'} {P : A → List Token → Type 0} {Q : B → List Token → Type 0} {x : A} {z : B} {ps qs : List Piece} →
     Reprints test e P x ps → ((rest : List Piece) → test' (text_of rest) ≡ true → test (text_of (qs ++ rest)) ≡ true) → Reprints test' f Q z qs →
     Reprints {A = A × B} {B = A' × B'} test' (λ p. (e p.0, f p.1)) (λ p. P p.0 then Q p.1) (x, z) (ps ++ qs)
@@ -201,7 +200,7 @@ pub r_made : {A A' B B' : Type 0} {test : List ℕ → Bool} {e : A → A'} {f :
     ((ts : List Token) → Q z ts → P x ts) → Reprints test e P x ps → Reprints test f Q z ps
 r_made made spells keeps parts one = record { from = λ ts h printable. remade made spells keeps (one.from ts (parts ts h) printable) }
 
--- A token behind an item.
+-- A token after an item.
 pub r_closed : {A B : Type 0} {test test' : List ℕ → Bool} {e : A → B} {P : A → List Token → Type 0} {x : A} {ps : List Piece} (kind : TokenKind) →
     (IsPrintable kind → (rest : List Piece) → test' (text_of rest) ≡ true → Reads kind (token_text kind) (text_of rest)) →
     ((rest : List Piece) → test (text_of (token kind ∷ rest)) ≡ true) →

@@ -8,28 +8,33 @@ use Rattle.heyvl_syntax.specs.Tokens.{Lexes}
 use Rattle.heyvl_syntax.specs.declared.tokens.Token.{Token}
 use Rattle.std.specs.Prelude.{List, ◌≡◌, ℕ}
 
--- The canonical text of a file that some bytes spell spells the same file, up to places.
+-- If some bytes spell `file`, its canonical text spells the same file, up to places.
 abbrev pub PrintedTextSpells : Type 0
 PrintedTextSpells =
     (bytes : List ℕ) (file : List Procedure) → Spells bytes file →
     (other : List Procedure) × Spells (canonical_text file) other × SameButPlaces file other
 
--- The same of a file that some tokens spell, at whatever places, where bytes can have each of these tokens.
+-- If some tokens spell `file` and all of them are printable, its canonical text spells the same
+-- file, up to places.
 abbrev pub PrintableFilesSpell : Type 0
 PrintableFilesSpell =
     (tokens : List Token) (file : List Procedure) → ArePrintable tokens → IsFile file tokens →
     (other : List Procedure) × Spells (canonical_text file) other × SameButPlaces file other
 
--- Bytes can have the tokens that some bytes have.
+-- The tokens of bytes are printable.
 abbrev pub LexedTokensArePrintable : Type 0
-LexedTokensArePrintable = (bytes : List ℕ) (tokens : List Token) → Lexes 0 bytes tokens → ArePrintable tokens
+LexedTokensArePrintable = (bytes : List ℕ) (tokens : List Token) → Lexes 0 bytes tokens
+    → ArePrintable tokens
 
 -- Files that differ in places alone have the same canonical text.
 abbrev pub TextIgnoresPlaces : Type 0
-TextIgnoresPlaces = (file other : List Procedure) → SameButPlaces file other → canonical_text file ≡ canonical_text other
+TextIgnoresPlaces = (file other : List Procedure) → SameButPlaces file other
+    → canonical_text file ≡ canonical_text other
 
--- The canonical text of a file that some bytes spell spells a file whose canonical text it is.
+-- If some bytes spell `file`, its canonical text spells a file whose canonical text it is too:
+-- printing twice changes nothing more.
 abbrev pub PrintingIsStable : Type 0
 PrintingIsStable =
     (bytes : List ℕ) (file : List Procedure) → Spells bytes file →
-    (other : List Procedure) × Spells (canonical_text file) other × (canonical_text other ≡ canonical_text file)
+    (other : List Procedure) × Spells (canonical_text file) other
+    × (canonical_text other ≡ canonical_text file)

@@ -1,4 +1,4 @@
--- A text as a list of tokens and white space.
+-- A text as a list of tokens and white space. This project's own.
 use Rattle.heyvl_print.specs.Numbers.{number_text}
 use Rattle.heyvl_syntax.specs.Keys.{key_text}
 use Rattle.heyvl_syntax.specs.Marks.{mark_text}
@@ -9,7 +9,7 @@ use Rattle.heyvl_syntax.specs.declared.tokens.TokenKind.TheVariants as kinds
 use Rattle.heyvl_syntax.specs.declared.tokens.TokenKind.{TokenKind}
 use Rattle.std.specs.Prelude.{List, [], replicate, ◌++◌, ◌∷◌, ℕ}
 
--- A token, or a byte of white space: a blank or a line feed.
+-- A token, or a byte of white space: a space or a line feed.
 pub data Piece : Type 0 where
   token : TokenKind → Piece
   blank : Piece
@@ -28,24 +28,24 @@ piece_text (token kind) = token_text kind
 piece_text blank = 32 ∷ []
 piece_text line_feed = 10 ∷ []
 
--- The bytes of pieces, one behind another.
+-- The bytes of pieces, in their order.
 abbrev pub text_of : List Piece → List ℕ
 text_of [] = []
 text_of (p ∷ ps) = piece_text p ++ text_of ps
 
--- The token of a key, alone.
+-- The token of the keyword `k` alone.
 abbrev pub key : Key → List Piece
 key k = token (kinds.Key k) ∷ []
 
--- The token of a mark, alone.
+-- The token of the symbol `m` alone.
 abbrev pub mark : Mark → List Piece
 mark m = token (kinds.Mark m) ∷ []
 
--- The token of a word, alone.
+-- The token of the identifier `x` alone.
 abbrev pub word : List ℕ → List Piece
 word x = token (kinds.Word x) ∷ []
 
--- One blank.
+-- One space.
 abbrev pub space : List Piece
 space = blank ∷ []
 
@@ -53,29 +53,29 @@ space = blank ∷ []
 abbrev pub feed : List Piece
 feed = line_feed ∷ []
 
--- The blanks at the front of a line.
+-- The `n` spaces before a line.
 abbrev pub margin : ℕ → List Piece
 margin n = replicate n blank
 
 infixr 30 ◌then◌
--- The pieces of the one, and behind them those of the other.
+-- `ps then qs`: the pieces `ps`, then the pieces `qs`.
 abbrev pub ◌then◌ : List Piece → List Piece → List Piece
 ◌then◌ ps qs = ps ++ qs
 
--- `,` and `:` are followed by one space.
+-- A comma and one space.
 abbrev pub comma : List Piece
 comma = mark marks.Comma then space
 
--- A `:` and one space.
+-- A colon and one space.
 abbrev pub colon : List Piece
 colon = mark marks.Colon then space
 
--- Each item, one behind another.
+-- The pieces of all items, in their order.
 abbrev pub each : {A : Type 0} → (A → List Piece) → List A → List Piece
 each item [] = []
 each item (x ∷ xs) = item x then each item xs
 
--- The items, with a separator between.
+-- The pieces of all items, with `separator` between them.
 abbrev pub separated : {A : Type 0} → List Piece → (A → List Piece) → List A → List Piece
 separated separator item [] = []
 separated separator item (x ∷ xs) = item x then each (λ y. separator then item y) xs

@@ -1,20 +1,21 @@
-//! Bytes that are put behind a text.
+//! Appending bytes to a text.
 
 ghost use Rattle.std.specs.Prelude.{◌++◌, ◌≡◌, OnOk, replicate};
 
 use std::alloc::AllocError;
 
-/// The most bytes that are put one by one.
+/// The largest number of bytes that are appended one by one.
 const FEW: usize = 4;
 
-/// Puts the bytes behind the text.
+/// Appends `bytes` to `text`.
 pub(crate) fn write(text: &mut Vec<u8>, bytes: &[u8]) -> Result<(), AllocError>
     ensures { OnOk result (text.new.items ≡ text.old.items ++ bytes.now) }
 {
     Ok(text.extend_from_slice(bytes)?)
 }
 
-/// Puts the byte behind the text, `count` times: more than a few at once. Once there is room for them, their number is in range.
+/// Appends `count` times `byte` to `text`: up to `FEW` one by one, more at once. The room is
+/// reserved first, so that the new length is in range.
 pub(crate) fn write_repeated(text: &mut Vec<u8>, byte: u8, count: usize) -> Result<(), AllocError>
     ensures { OnOk result (text.new.items ≡ text.old.items ++ replicate count byte) }
 {

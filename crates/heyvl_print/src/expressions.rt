@@ -11,9 +11,10 @@ use crate::symbols::{operator_text, prefix_text, quantifier_text, truth_text, ty
 use heyvl_syntax::Expr;
 use std::alloc::AllocError;
 
-/// Puts the expression behind the text.
+/// Appends an expression to `text`.
 pub(crate) fn print_expression(text: &mut Vec<u8>, printed: &Expr) -> Result<(), AllocError>
-    ensures { OnOk result (text.new.items ≡ text.old.items ++ text_of (expression_pieces (expression printed.now))) }
+    ensures { OnOk result (text.new.items ≡ text.old.items
+        ++ text_of (expression_pieces (expression printed.now))) }
 {
     match printed {
         Expr::Number(number, _) => Ok(print_number(text, *number)?),
@@ -67,9 +68,10 @@ pub(crate) fn print_expression(text: &mut Vec<u8>, printed: &Expr) -> Result<(),
     }
 }
 
-/// Puts the expressions behind the text, with commas between.
+/// Appends expressions to `text`, with commas between them.
 pub(crate) fn print_expressions(text: &mut Vec<u8>, all: &[Expr]) -> Result<(), AllocError>
-    ensures { OnOk result (text.new.items ≡ text.old.items ++ text_of (separated comma expression_pieces (expressions all.now))) }
+    ensures { OnOk result (text.new.items ≡ text.old.items
+        ++ text_of (separated comma expression_pieces (expressions all.now))) }
 {
     let Some((first, others)) = all.split_first() else {
         return Ok(());

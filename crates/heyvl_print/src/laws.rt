@@ -1,14 +1,15 @@
 //! Laws of the canonical text.
 
-ghost use Rattle.heyvl_print.specs.Laws.{LexedTokensArePrintable, PrintableFilesSpell, PrintedTextSpells, PrintingIsStable, TextIgnoresPlaces};
+ghost use Rattle.heyvl_print.specs.Laws.{LexedTokensArePrintable, PrintableFilesSpell};
+ghost use Rattle.heyvl_print.specs.Laws.{PrintedTextSpells, PrintingIsStable, TextIgnoresPlaces};
 
-/// The canonical text of a file that some bytes spell spells the same file, up to places.
+/// If some bytes spell a file, its canonical text spells the same file, up to places.
 pub fn printed_text_spells_the_file()
     ensures { PrintedTextSpells }
 {}
 
-/// The canonical text of a file that some tokens spell, at whatever places, spells the same file, up to places, where bytes can have
-/// each of these tokens. They can have the tokens that some bytes have.
+/// If some tokens spell a file and all of them are printable, its canonical text spells the same
+/// file, up to places. The tokens of bytes are printable.
 pub fn printable_files_are_spelled()
     ensures spells { PrintableFilesSpell }
     ensures lexed { LexedTokensArePrintable }
@@ -19,7 +20,7 @@ pub fn text_ignores_places()
     ensures { TextIgnoresPlaces }
 {}
 
-/// The canonical text of a file that some bytes spell spells a file whose canonical text it is.
+/// If some bytes spell a file, its canonical text spells a file whose canonical text it is too.
 pub fn printing_is_stable()
     ensures { PrintingIsStable }
 {}

@@ -1,4 +1,4 @@
-//! The canonical text of a file.
+//! The canonical text of a file. `AllocError` means that memory ran out.
 #![tactic(auto)]
 
 mod bytes;

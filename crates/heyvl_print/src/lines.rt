@@ -1,10 +1,13 @@
 //! The text of right sides, rules and statements of one line.
 
-ghost use Rattle.heyvl_print.specs.Canonical.{call_pieces, expression_pieces, given_pieces, right_pieces, rule_line, rule_pieces, statement_lines, target_pieces, weighted_pieces};
+ghost use Rattle.heyvl_print.specs.Canonical.{call_pieces, expression_pieces, given_pieces};
+ghost use Rattle.heyvl_print.specs.Canonical.{right_pieces, rule_line, rule_pieces};
+ghost use Rattle.heyvl_print.specs.Canonical.{statement_lines, target_pieces, weighted_pieces};
 ghost use Rattle.heyvl_print.specs.Pieces.{comma, each, separated, text_of, word};
 ghost use Rattle.heyvl_print.specs.WithoutPlaces.{no_place};
 ghost use Rattle.heyvl_syntax.specs.Expressions.{expression, expressions};
-ghost use Rattle.heyvl_syntax.specs.Statements.{Statement, choices, loop_rule, loop_rules, optional_right, right_side};
+ghost use Rattle.heyvl_syntax.specs.Statements.{Statement, choices, loop_rule, loop_rules};
+ghost use Rattle.heyvl_syntax.specs.Statements.{optional_right, right_side};
 ghost use Rattle.std.specs.Prelude.{◌++◌, ◌≡◌, ◌∷◌, OnOk, [], replicate};
 
 use crate::bytes::{write, write_repeated};
@@ -14,10 +17,11 @@ use heyvl_places::Name;
 use heyvl_syntax::{Expr, Right, Rule, TypeName};
 use std::alloc::AllocError;
 
-/// Puts the names behind the text, with commas between.
+/// Appends names to `text`, with commas between them.
 #[inline(always)]
 fn print_names(text: &mut Vec<u8>, names: &[Name]) -> Result<(), AllocError>
-    ensures { OnOk result (text.new.items ≡ text.old.items ++ text_of (separated comma word names.now)) }
+    ensures { OnOk result (text.new.items ≡ text.old.items
+        ++ text_of (separated comma word names.now)) }
 {
     let Some((first, others)) = names.split_first() else {
         return Ok(());
@@ -30,18 +34,20 @@ fn print_names(text: &mut Vec<u8>, names: &[Name]) -> Result<(), AllocError>
     Ok(())
 }
 
-/// Puts `p: a` behind the text.
+/// Appends `p: a` to `text`.
 fn print_weighted(text: &mut Vec<u8>, weight: &Expr, value: &Expr) -> Result<(), AllocError>
-    ensures { OnOk result (text.new.items ≡ text.old.items ++ text_of (weighted_pieces (expression weight.now, expression value.now))) }
+    ensures { OnOk result (text.new.items ≡ text.old.items
+        ++ text_of (weighted_pieces (expression weight.now, expression value.now))) }
 {
     print_expression(text, weight)?;
     write(text, b": ")?;
     Ok(print_expression(text, value)?)
 }
 
-/// Puts the parts of a choose behind the text, with commas between.
+/// Appends the weighted values of a `choose` to `text`, with commas between them.
 fn print_parts(text: &mut Vec<u8>, parts: &[(Expr, Expr)]) -> Result<(), AllocError>
-    ensures { OnOk result (text.new.items ≡ text.old.items ++ text_of (separated comma weighted_pieces (choices parts.now))) }
+    ensures { OnOk result (text.new.items ≡ text.old.items
+        ++ text_of (separated comma weighted_pieces (choices parts.now))) }
 {
     let Some((first, others)) = parts.split_first() else {
         return Ok(());
@@ -54,9 +60,10 @@ fn print_parts(text: &mut Vec<u8>, parts: &[(Expr, Expr)]) -> Result<(), AllocEr
     Ok(())
 }
 
-/// Puts `f(a, b)` behind the text.
+/// Appends `f(a, b)` to `text`.
 fn print_call(text: &mut Vec<u8>, name: &Name, arguments: &[Expr]) -> Result<(), AllocError>
-    ensures { OnOk result (text.new.items ≡ text.old.items ++ text_of (call_pieces name.now (expressions arguments.now))) }
+    ensures { OnOk result (text.new.items ≡ text.old.items
+        ++ text_of (call_pieces name.now (expressions arguments.now))) }
 {
     write(text, name.as_bytes())?;
     write(text, b"(")?;
@@ -64,10 +71,11 @@ fn print_call(text: &mut Vec<u8>, name: &Name, arguments: &[Expr]) -> Result<(),
     Ok(write(text, b")")?)
 }
 
-/// Puts what a variable is given behind the text.
+/// Appends a right side to `text`.
 #[inline(always)]
 fn print_right(text: &mut Vec<u8>, right: &Right) -> Result<(), AllocError>
-    ensures { OnOk result (text.new.items ≡ text.old.items ++ text_of (right_pieces (right_side right.now))) }
+    ensures { OnOk result (text.new.items ≡ text.old.items
+        ++ text_of (right_pieces (right_side right.now))) }
 {
     match right {
         Right::Plain(value) => Ok(print_expression(text, value)?),
@@ -92,9 +100,10 @@ fn print_right(text: &mut Vec<u8>, right: &Right) -> Result<(), AllocError>
     }
 }
 
-/// Puts ` = r` behind the text, where something is given.
+/// Appends ` = r` to `text`, or nothing without a right side.
 fn print_given(text: &mut Vec<u8>, given: &Option<Right>) -> Result<(), AllocError>
-    ensures { OnOk result (text.new.items ≡ text.old.items ++ text_of (given_pieces (optional_right given.now))) }
+    ensures { OnOk result (text.new.items ≡ text.old.items
+        ++ text_of (given_pieces (optional_right given.now))) }
 {
     match given {
         None => Ok(()),
@@ -105,7 +114,7 @@ fn print_given(text: &mut Vec<u8>, given: &Option<Right>) -> Result<(), AllocErr
     }
 }
 
-/// Puts `x, y = ` behind the text, or nothing where there is no target.
+/// Appends `x, y = ` to `text`, or nothing without a target.
 #[inline(always)]
 fn print_targets(text: &mut Vec<u8>, targets: &[Name]) -> Result<(), AllocError>
     ensures { OnOk result (text.new.items ≡ text.old.items ++ text_of (target_pieces targets.now)) }
@@ -117,9 +126,10 @@ fn print_targets(text: &mut Vec<u8>, targets: &[Name]) -> Result<(), AllocError>
     Ok(write(text, b" = ")?)
 }
 
-/// Puts the rule behind the text.
+/// Appends a rule to `text`.
 fn print_rule(text: &mut Vec<u8>, rule: &Rule) -> Result<(), AllocError>
-    ensures { OnOk result (text.new.items ≡ text.old.items ++ text_of (rule_pieces (loop_rule rule.now))) }
+    ensures { OnOk result (text.new.items ≡ text.old.items
+        ++ text_of (rule_pieces (loop_rule rule.now))) }
 {
     match rule {
         Rule::Invariant(invariant, _) => {
@@ -144,13 +154,14 @@ fn print_rule(text: &mut Vec<u8>, rule: &Rule) -> Result<(), AllocError>
     }
 }
 
-/// Puts the rules behind the text, each on a line behind the margin.
+/// Appends the lines of rules to `text`, indented by `margin` spaces.
 pub(crate) fn print_rules(
     text: &mut Vec<u8>,
     margin: usize,
     rules: &[Rule],
 ) -> Result<(), AllocError>
-    ensures { OnOk result (text.new.items ≡ text.old.items ++ text_of (each (rule_line margin) (loop_rules rules.now))) }
+    ensures { OnOk result (text.new.items ≡ text.old.items
+        ++ text_of (each (rule_line margin) (loop_rules rules.now))) }
 {
     for rule in rules {
         write_repeated(text, b' ', margin)?;
@@ -160,7 +171,7 @@ pub(crate) fn print_rules(
     Ok(())
 }
 
-/// Puts `var x: T`, with what it is given, on a line behind the margin.
+/// Appends the line of a `var` statement to `text`, indented by `margin` spaces.
 pub(crate) fn print_var(
     text: &mut Vec<u8>,
     margin: usize,
@@ -168,7 +179,9 @@ pub(crate) fn print_var(
     ty: TypeName,
     given: &Option<Right>,
 ) -> Result<(), AllocError>
-    ensures { OnOk result (text.new.items ≡ text.old.items ++ text_of (statement_lines margin (Statement.var name.now ty (optional_right given.now) no_place))) }
+    ensures { OnOk result (text.new.items ≡ text.old.items
+        ++ text_of (statement_lines margin
+        (Statement.var name.now ty (optional_right given.now) no_place))) }
 {
     write_repeated(text, b' ', margin)?;
     write(text, b"var ")?;
@@ -179,14 +192,16 @@ pub(crate) fn print_var(
     Ok(write(text, b"\n")?)
 }
 
-/// Puts `x, y = r`, or a call alone, on a line behind the margin.
+/// Appends the line of an assignment or a call to `text`, indented by `margin` spaces.
 pub(crate) fn print_assign(
     text: &mut Vec<u8>,
     margin: usize,
     targets: &[Name],
     right: &Right,
 ) -> Result<(), AllocError>
-    ensures { OnOk result (text.new.items ≡ text.old.items ++ text_of (statement_lines margin (Statement.assign targets.now (right_side right.now) no_place))) }
+    ensures { OnOk result (text.new.items ≡ text.old.items
+        ++ text_of (statement_lines margin
+        (Statement.assign targets.now (right_side right.now) no_place))) }
 {
     write_repeated(text, b' ', margin)?;
     print_targets(text, targets)?;
@@ -194,14 +209,15 @@ pub(crate) fn print_assign(
     Ok(write(text, b"\n")?)
 }
 
-/// Puts `havoc x, y` or `cohavoc x, y` on a line behind the margin.
+/// Appends the line of a `havoc` or `cohavoc` to `text`, indented by `margin` spaces.
 pub(crate) fn print_havoc(
     text: &mut Vec<u8>,
     margin: usize,
     co: bool,
     names: &[Name],
 ) -> Result<(), AllocError>
-    ensures { OnOk result (text.new.items ≡ text.old.items ++ text_of (statement_lines margin (Statement.havoc co names.now no_place))) }
+    ensures { OnOk result (text.new.items ≡ text.old.items
+        ++ text_of (statement_lines margin (Statement.havoc co names.now no_place))) }
 {
     write_repeated(text, b' ', margin)?;
     write(text, havoc_text(co))?;
@@ -210,27 +226,30 @@ pub(crate) fn print_havoc(
     Ok(write(text, b"\n")?)
 }
 
-/// Puts a word alone on a line behind the margin.
+/// Appends a line with `keyword` alone to `text`, indented by `margin` spaces.
 pub(crate) fn print_word(
     text: &mut Vec<u8>,
     margin: usize,
     keyword: &[u8],
 ) -> Result<(), AllocError>
-    ensures { OnOk result (text.new.items ≡ text.old.items ++ (replicate margin 32 ++ (keyword.now ++ 10 ∷ []))) }
+    ensures { OnOk result (text.new.items ≡ text.old.items
+        ++ (replicate margin 32 ++ (keyword.now ++ 10 ∷ []))) }
 {
     write_repeated(text, b' ', margin)?;
     write(text, keyword)?;
     Ok(write(text, b"\n")?)
 }
 
-/// Puts a word and an expression on a line behind the margin.
+/// Appends a line with `keyword` and an expression to `text`, indented by `margin` spaces.
 pub(crate) fn print_claim(
     text: &mut Vec<u8>,
     margin: usize,
     keyword: &[u8],
     claim: &Expr,
 ) -> Result<(), AllocError>
-    ensures { OnOk result (text.new.items ≡ text.old.items ++ (replicate margin 32 ++ (keyword.now ++ 32 ∷ (text_of (expression_pieces (expression claim.now)) ++ 10 ∷ [])))) }
+    ensures { OnOk result (text.new.items ≡ text.old.items
+        ++ (replicate margin 32
+        ++ (keyword.now ++ 32 ∷ (text_of (expression_pieces (expression claim.now)) ++ 10 ∷ [])))) }
 {
     write_repeated(text, b' ', margin)?;
     write(text, keyword)?;

@@ -8,7 +8,7 @@ use heyvl_syntax::Lit;
 use itoa::Buffer;
 use std::alloc::AllocError;
 
-/// Puts the digits of the number behind the text, with its places. The sign isn't printed: no literal has one.
+/// Appends a literal to `text`. The sign is not printed: no literal has one.
 pub(crate) fn print_number(text: &mut Vec<u8>, number: Lit) -> Result<(), AllocError>
     ensures { OnOk result (text.new.items ≡ text.old.items ++ number_text number) }
 {

@@ -1,6 +1,8 @@
 //! The text of procedures and files.
 
-ghost use Rattle.heyvl_print.specs.Canonical.{body_lines, canonical_text, file_lines, head_line, note_line, param_pieces, post_line, pre_line, procedure_lines};
+ghost use Rattle.heyvl_print.specs.Canonical.{body_lines, canonical_text, file_lines, head_line};
+ghost use Rattle.heyvl_print.specs.Canonical.{note_line, param_pieces, post_line, pre_line};
+ghost use Rattle.heyvl_print.specs.Canonical.{procedure_lines};
 ghost use Rattle.heyvl_print.specs.Pieces.{comma, each, separated, text_of};
 ghost use Rattle.heyvl_syntax.specs.Expressions.{expressions};
 ghost use Rattle.heyvl_syntax.specs.Procedures.{optional_block, procedure, procedures};
@@ -13,7 +15,7 @@ use crate::symbols::{note_text, procedure_text, type_text};
 use heyvl_syntax::{Expr, File, Note, Param, Proc, Stmt};
 use std::alloc::{AllocError, Global};
 
-/// Puts `@wlp`, `@wp` or `@ert` on a line behind the text, where there is a note.
+/// Appends the line of a note to `text`, or nothing without a note.
 fn print_note(text: &mut Vec<u8>, note: Option<Note>) -> Result<(), AllocError>
     ensures { OnOk result (text.new.items ≡ text.old.items ++ text_of (note_line note)) }
 {
@@ -27,7 +29,7 @@ fn print_note(text: &mut Vec<u8>, note: Option<Note>) -> Result<(), AllocError>
     }
 }
 
-/// Puts `x: T` behind the text.
+/// Appends `x: T` to `text`.
 fn print_param(text: &mut Vec<u8>, param: &Param) -> Result<(), AllocError>
     ensures { OnOk result (text.new.items ≡ text.old.items ++ text_of (param_pieces param.now)) }
 {
@@ -36,9 +38,10 @@ fn print_param(text: &mut Vec<u8>, param: &Param) -> Result<(), AllocError>
     Ok(write(text, type_text(param.ty))?)
 }
 
-/// Puts the parameters behind the text, with commas between.
+/// Appends parameters to `text`, with commas between them.
 fn print_params(text: &mut Vec<u8>, params: &[Param]) -> Result<(), AllocError>
-    ensures { OnOk result (text.new.items ≡ text.old.items ++ text_of (separated comma param_pieces params.now)) }
+    ensures { OnOk result (text.new.items ≡ text.old.items
+        ++ text_of (separated comma param_pieces params.now)) }
 {
     let Some((first, others)) = params.split_first() else {
         return Ok(());
@@ -51,9 +54,10 @@ fn print_params(text: &mut Vec<u8>, params: &[Param]) -> Result<(), AllocError>
     Ok(())
 }
 
-/// Puts `coproc f(x: T) -> (y: U)` on a line behind the text.
+/// Appends the line `coproc f(x: T) -> (y: U)` to `text`.
 fn print_head(text: &mut Vec<u8>, printed: &Proc) -> Result<(), AllocError>
-    ensures { OnOk result (text.new.items ≡ text.old.items ++ text_of (head_line (procedure printed.now))) }
+    ensures { OnOk result (text.new.items ≡ text.old.items
+        ++ text_of (head_line (procedure printed.now))) }
 {
     write(text, procedure_text(printed.co))?;
     write(text, b" ")?;
@@ -65,9 +69,10 @@ fn print_head(text: &mut Vec<u8>, printed: &Proc) -> Result<(), AllocError>
     Ok(write(text, b")\n")?)
 }
 
-/// Puts the pre clauses behind the text, each on a line.
+/// Appends the lines of pre clauses to `text`.
 fn print_pres(text: &mut Vec<u8>, pres: &[Expr]) -> Result<(), AllocError>
-    ensures { OnOk result (text.new.items ≡ text.old.items ++ text_of (each pre_line (expressions pres.now))) }
+    ensures { OnOk result (text.new.items ≡ text.old.items
+        ++ text_of (each pre_line (expressions pres.now))) }
 {
     for pre in pres {
         print_claim(text, 2, b"pre", pre)?;
@@ -75,9 +80,10 @@ fn print_pres(text: &mut Vec<u8>, pres: &[Expr]) -> Result<(), AllocError>
     Ok(())
 }
 
-/// Puts the post clauses behind the text, each on a line.
+/// Appends the lines of post clauses to `text`.
 fn print_posts(text: &mut Vec<u8>, posts: &[Expr]) -> Result<(), AllocError>
-    ensures { OnOk result (text.new.items ≡ text.old.items ++ text_of (each post_line (expressions posts.now))) }
+    ensures { OnOk result (text.new.items ≡ text.old.items
+        ++ text_of (each post_line (expressions posts.now))) }
 {
     for post in posts {
         print_claim(text, 2, b"post", post)?;
@@ -85,9 +91,10 @@ fn print_posts(text: &mut Vec<u8>, posts: &[Expr]) -> Result<(), AllocError>
     Ok(())
 }
 
-/// Puts the body behind the text, where there is one.
+/// Appends the lines of a body to `text`, or nothing without a body.
 fn print_body(text: &mut Vec<u8>, body: &Option<Vec<Stmt>>) -> Result<(), AllocError>
-    ensures { OnOk result (text.new.items ≡ text.old.items ++ text_of (body_lines (optional_block body.now))) }
+    ensures { OnOk result (text.new.items ≡ text.old.items
+        ++ text_of (body_lines (optional_block body.now))) }
 {
     match body {
         None => Ok(()),
@@ -99,9 +106,10 @@ fn print_body(text: &mut Vec<u8>, body: &Option<Vec<Stmt>>) -> Result<(), AllocE
     }
 }
 
-/// Puts the lines of the procedure behind the text.
+/// Appends the lines of a procedure to `text`.
 fn print_procedure(text: &mut Vec<u8>, printed: &Proc) -> Result<(), AllocError>
-    ensures { OnOk result (text.new.items ≡ text.old.items ++ text_of (procedure_lines (procedure printed.now))) }
+    ensures { OnOk result (text.new.items ≡ text.old.items
+        ++ text_of (procedure_lines (procedure printed.now))) }
 {
     print_note(text, printed.note)?;
     print_head(text, printed)?;
@@ -110,9 +118,10 @@ fn print_procedure(text: &mut Vec<u8>, printed: &Proc) -> Result<(), AllocError>
     Ok(print_body(text, &printed.body)?)
 }
 
-/// Puts the lines of the procedures behind the text, with an empty line between.
+/// Appends the lines of procedures to `text`, with an empty line between them.
 fn print_procedures(text: &mut Vec<u8>, all: &[Proc]) -> Result<(), AllocError>
-    ensures { OnOk result (text.new.items ≡ text.old.items ++ text_of (file_lines (map procedure all.now))) }
+    ensures { OnOk result (text.new.items ≡ text.old.items
+        ++ text_of (file_lines (map procedure all.now))) }
 {
     let Some((first, others)) = all.split_first() else {
         return Ok(());
@@ -125,7 +134,7 @@ fn print_procedures(text: &mut Vec<u8>, all: &[Proc]) -> Result<(), AllocError>
     Ok(())
 }
 
-/// The canonical text of the file: one text for each tree. It fails only for want of memory.
+/// Returns the canonical text of `file`: one text for each tree.
 pub fn print(alloc: Global, file: &File) -> Result<Vec<u8>, AllocError>
     ensures text { IfOk result (λ text. text.items ≡ canonical_text (procedures file.now)) }
 {

@@ -1,6 +1,7 @@
 //! The text of statements and blocks.
 
-ghost use Rattle.heyvl_print.specs.Canonical.{arm_pieces, block_lines, braced, else_pieces, if_pieces, statement_lines};
+ghost use Rattle.heyvl_print.specs.Canonical.{arm_pieces, block_lines, braced, else_pieces};
+ghost use Rattle.heyvl_print.specs.Canonical.{if_pieces, statement_lines};
 ghost use Rattle.heyvl_print.specs.Pieces.{text_of};
 ghost use Rattle.heyvl_syntax.specs.Expressions.{expression};
 ghost use Rattle.heyvl_syntax.specs.Statements.{arms, block, statement};
@@ -13,7 +14,7 @@ use crate::symbols::{check_text, pick_text, validate_text};
 use heyvl_syntax::{Arm, Stmt};
 use std::alloc::AllocError;
 
-/// Two more blanks before a line, where the text has as many bytes: so their number is in range.
+/// Returns `margin + 2`. The sum is in range, since `text` has as many bytes.
 fn deeper(text: &[u8], margin: usize) -> usize
     requires { margin + 2 ≤ length text.now }
     ensures { result ≡ margin + 2 }
@@ -22,11 +23,12 @@ fn deeper(text: &[u8], margin: usize) -> usize
     margin + 2
 }
 
-/// Puts ` {`, the lines of the block and `}` behind the text.
+/// Appends ` {`, the lines of a block and `}` to `text`.
 #[cycle(printing)]
 fn print_braced(text: &mut Vec<u8>, margin: usize, statements: &[Stmt]) -> Result<(), AllocError>
     requires { margin ≤ length text.old.items }
-    ensures { OnOk result (text.new.items ≡ text.old.items ++ text_of (braced margin (block_lines (margin + 2) (block statements.now)))) }
+    ensures { OnOk result (text.new.items ≡ text.old.items
+        ++ text_of (braced margin (block_lines (margin + 2) (block statements.now)))) }
 {
     write(text, b" {\n")?;
     let inner = deeper(text, margin);
@@ -35,32 +37,36 @@ fn print_braced(text: &mut Vec<u8>, margin: usize, statements: &[Stmt]) -> Resul
     Ok(write(text, b"}")?)
 }
 
-/// Puts ` else {`, the lines of the block and `}` behind the text.
+/// Appends ` else {`, the lines of a block and `}` to `text`.
 #[cycle(printing)]
 fn print_else(text: &mut Vec<u8>, margin: usize, statements: &[Stmt]) -> Result<(), AllocError>
     requires { margin ≤ length text.old.items }
-    ensures { OnOk result (text.new.items ≡ text.old.items ++ text_of (else_pieces margin (block_lines (margin + 2) (block statements.now)))) }
+    ensures { OnOk result (text.new.items ≡ text.old.items
+        ++ text_of (else_pieces margin (block_lines (margin + 2) (block statements.now)))) }
 {
     write(text, b" else")?;
     Ok(print_braced(text, margin, statements)?)
 }
 
-/// Puts `if a {`, the lines of the block and `}` behind the text.
+/// Appends `if a {`, the lines of a block and `}` to `text`.
 #[cycle(printing)]
 fn print_arm(text: &mut Vec<u8>, margin: usize, arm: &Arm) -> Result<(), AllocError>
     requires { margin ≤ length text.old.items }
-    ensures { OnOk result (text.new.items ≡ text.old.items ++ text_of (arm_pieces margin (expression arm.now.guard) (block_lines (margin + 2) (block arm.now.body.items)))) }
+    ensures { OnOk result (text.new.items ≡ text.old.items
+        ++ text_of (arm_pieces margin (expression arm.now.guard)
+        (block_lines (margin + 2) (block arm.now.body.items)))) }
 {
     write(text, b"if ")?;
     print_expression(text, &arm.guard)?;
     Ok(print_braced(text, margin, &arm.body)?)
 }
 
-/// Puts `if a { .. }` behind the text, and ` else if b { .. }` for each further arm.
+/// Appends `if a { .. }` to `text`, and ` else if b { .. }` for each further arm.
 #[cycle(printing)]
 fn print_arms(text: &mut Vec<u8>, margin: usize, all: &[Arm]) -> Result<(), AllocError>
     requires { margin ≤ length text.old.items }
-    ensures { OnOk result (text.new.items ≡ text.old.items ++ text_of (if_pieces margin (arms all.now))) }
+    ensures { OnOk result (text.new.items ≡ text.old.items
+        ++ text_of (if_pieces margin (arms all.now))) }
 {
     let Some((first, others)) = all.split_first() else {
         return Ok(());
@@ -73,11 +79,12 @@ fn print_arms(text: &mut Vec<u8>, margin: usize, all: &[Arm]) -> Result<(), Allo
     Ok(())
 }
 
-/// Puts the lines of the statement behind the text, each behind the margin or more.
+/// Appends the lines of a statement to `text`, indented by at least `margin` spaces.
 #[cycle(printing)]
 fn print_statement(text: &mut Vec<u8>, margin: usize, printed: &Stmt) -> Result<(), AllocError>
     requires { margin ≤ length text.old.items }
-    ensures { OnOk result (text.new.items ≡ text.old.items ++ text_of (statement_lines margin (statement printed.now))) }
+    ensures { OnOk result (text.new.items ≡ text.old.items
+        ++ text_of (statement_lines margin (statement printed.now))) }
 {
     match printed {
         Stmt::Var(name, ty, given, _) => Ok(print_var(text, margin, name, *ty, given)?),
@@ -111,7 +118,7 @@ fn print_statement(text: &mut Vec<u8>, margin: usize, printed: &Stmt) -> Result<
     }
 }
 
-/// Puts the lines of a block behind the text, each behind the margin or more.
+/// Appends the lines of a block to `text`, indented by at least `margin` spaces.
 #[cycle(printing)]
 pub(crate) fn print_block(
     text: &mut Vec<u8>,
@@ -119,7 +126,8 @@ pub(crate) fn print_block(
     statements: &[Stmt],
 ) -> Result<(), AllocError>
     requires { margin ≤ length text.old.items }
-    ensures { OnOk result (text.new.items ≡ text.old.items ++ text_of (block_lines margin (block statements.now))) }
+    ensures { OnOk result (text.new.items ≡ text.old.items
+        ++ text_of (block_lines margin (block statements.now))) }
 {
     for one in statements {
         print_statement(text, margin, one)?;

@@ -1,7 +1,9 @@
-//! The bytes of operators, types and notes.
+//! The bytes of operators, types, keywords and notes.
 
 ghost use Rattle.heyvl_print.specs.Pieces.{token_text};
-ghost use Rattle.heyvl_syntax.specs.Grammar.{check_key, havoc_key, note_word, operator, pick_key, prefix, proc_key, quantifier_key, truth_key, type_key, validate_key};
+ghost use Rattle.heyvl_syntax.specs.Grammar.{check_key, havoc_key, note_word, operator, pick_key};
+ghost use Rattle.heyvl_syntax.specs.Grammar.{prefix, proc_key, quantifier_key, truth_key, type_key};
+ghost use Rattle.heyvl_syntax.specs.Grammar.{validate_key};
 ghost use Rattle.heyvl_syntax.specs.Keys.{key_text};
 ghost use Rattle.heyvl_syntax.specs.Marks.{mark_text};
 ghost use Rattle.std.specs.Prelude.{◌≡◌};
@@ -9,7 +11,7 @@ ghost use Rattle.std.specs.Prelude.{◌≡◌};
 use heyvl_places::CheckKind;
 use heyvl_syntax::{BinaryOp, Note, TypeName, UnaryOp};
 
-/// The bytes of an operator between operands.
+/// Returns the bytes of a binary operator.
 pub(crate) fn operator_text(op: BinaryOp) -> &'static [u8]
     ensures { result.now ≡ token_text (operator op) }
 {
@@ -33,7 +35,7 @@ pub(crate) fn operator_text(op: BinaryOp) -> &'static [u8]
     }
 }
 
-/// The bytes of an operator before its operand.
+/// Returns the bytes of a prefix operator.
 pub(crate) fn prefix_text(op: UnaryOp) -> &'static [u8]
     ensures { result.now ≡ mark_text (prefix op) }
 {
@@ -44,7 +46,7 @@ pub(crate) fn prefix_text(op: UnaryOp) -> &'static [u8]
     }
 }
 
-/// The bytes of a type.
+/// Returns the bytes of a type.
 pub(crate) fn type_text(ty: TypeName) -> &'static [u8]
     ensures { result.now ≡ key_text (type_key ty) }
 {
@@ -58,7 +60,7 @@ pub(crate) fn type_text(ty: TypeName) -> &'static [u8]
     }
 }
 
-/// The bytes of the word that a check begins with.
+/// Returns the keyword of a check.
 pub(crate) fn check_text(kind: CheckKind) -> &'static [u8]
     ensures { result.now ≡ key_text (check_key kind) }
 {
@@ -70,7 +72,7 @@ pub(crate) fn check_text(kind: CheckKind) -> &'static [u8]
     }
 }
 
-/// The bytes of a note's word.
+/// Returns the name of a note.
 pub(crate) fn note_text(note: Note) -> &'static [u8]
     ensures { result.now ≡ note_word note }
 {
@@ -81,42 +83,42 @@ pub(crate) fn note_text(note: Note) -> &'static [u8]
     }
 }
 
-/// `true` or `false`.
+/// Returns `true` or `false`.
 pub(crate) fn truth_text(truth: bool) -> &'static [u8]
     ensures { result.now ≡ key_text (truth_key truth) }
 {
     if truth { b"true" } else { b"false" }
 }
 
-/// `sup` where the flag is true, else `inf`.
+/// Returns `sup` if `up` holds, otherwise `inf`.
 pub(crate) fn quantifier_text(up: bool) -> &'static [u8]
     ensures { result.now ≡ key_text (quantifier_key up) }
 {
     if up { b"sup" } else { b"inf" }
 }
 
-/// `covalidate` where the flag is true, else `validate`.
+/// Returns `covalidate` if `co` holds, otherwise `validate`.
 pub(crate) fn validate_text(co: bool) -> &'static [u8]
     ensures { result.now ≡ key_text (validate_key co) }
 {
     if co { b"covalidate" } else { b"validate" }
 }
 
-/// `cohavoc` where the flag is true, else `havoc`.
+/// Returns `cohavoc` if `co` holds, otherwise `havoc`.
 pub(crate) fn havoc_text(co: bool) -> &'static [u8]
     ensures { result.now ≡ key_text (havoc_key co) }
 {
     if co { b"cohavoc" } else { b"havoc" }
 }
 
-/// `\cup` where the flag is true, else `\cap`.
+/// Returns `\cup` if `up` holds, otherwise `\cap`.
 pub(crate) fn pick_text(up: bool) -> &'static [u8]
     ensures { result.now ≡ key_text (pick_key up) }
 {
     if up { b"\\cup" } else { b"\\cap" }
 }
 
-/// `coproc` where the flag is true, else `proc`.
+/// Returns `coproc` if `co` holds, otherwise `proc`.
 pub(crate) fn procedure_text(co: bool) -> &'static [u8]
     ensures { result.now ≡ key_text (proc_key co) }
 {

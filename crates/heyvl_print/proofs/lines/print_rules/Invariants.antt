@@ -4,6 +4,5 @@ use Rattle.heyvl_print.specs.Pieces.{each, text_of}
 use Rattle.heyvl_syntax.specs.Statements.{loop_rules}
 use Rattle.std.proofs.Common.{take, ◌++◌, ◌≡◌}
 
--- What has been printed is what has been visited.
 abbrev pub invariant-loop-rule : goal.invariant-loop-rule
 invariant-loop-rule l = l.text.items ≡ l.fn.text.items ++ text_of (each (rule_line l.margin) (loop_rules (take l.rule-index l.rules)))

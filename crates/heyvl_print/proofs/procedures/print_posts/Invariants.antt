@@ -4,6 +4,5 @@ use Rattle.heyvl_print.specs.Pieces.{each, text_of}
 use Rattle.heyvl_syntax.specs.Expressions.{expressions}
 use Rattle.std.proofs.Common.{take, ◌++◌, ◌≡◌}
 
--- What has been printed is what has been visited.
 abbrev pub invariant-loop-post : goal.invariant-loop-post
 invariant-loop-post l = l.text.items ≡ l.fn.text.items ++ text_of (each post_line (expressions (take l.post-index l.posts)))

@@ -4,6 +4,5 @@ use Rattle.heyvl_print.specs.Pieces.{each, text_of}
 use Rattle.heyvl_syntax.specs.Expressions.{expressions}
 use Rattle.std.proofs.Common.{take, ◌++◌, ◌≡◌}
 
--- What has been printed is what has been visited.
 abbrev pub invariant-loop-pre : goal.invariant-loop-pre
 invariant-loop-pre l = l.text.items ≡ l.fn.text.items ++ text_of (each pre_line (expressions (take l.pre-index l.pres)))

@@ -4,10 +4,9 @@ use Rattle.heyvl_print.specs.Pieces.{text_of}
 use Rattle.heyvl_syntax.specs.Statements.{arms, block}
 use Rattle.std.proofs.Common.{take, ◌++◌, ◌≡◌}
 
--- What stands behind the first arm is what has been visited.
+-- The text after the first arm holds the arms visited so far.
 abbrev pub invariant-print_arms-loop-other : goal.invariant-print_arms-loop-other
 invariant-print_arms-loop-other l = l.text.items ≡ l.initial.text.items ++ text_of (else_if_pieces l.margin (arms (take l.other-index l.others)))
 
--- What has been printed is what has been visited.
 abbrev pub invariant-print_block-loop-one : goal.invariant-print_block-loop-one
 invariant-print_block-loop-one l = l.text.items ≡ l.fn.text.items ++ text_of (block_lines l.margin (block (take l.one-index l.statements)))
