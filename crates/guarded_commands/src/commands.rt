@@ -1,4 +1,5 @@
-//! Reading commands and blocks.
+//! The parser of commands and blocks. As in `heyvl_parse`, a reader returns what it has read and
+//! the tokens after it.
 
 ghost use Rattle.heyvl_parse.specs.readers.Combinators.{spanned, starts};
 ghost use Rattle.heyvl_parse.specs.readers.ReadParts.{is_mark};
@@ -6,7 +7,13 @@ ghost use Rattle.heyvl_parse.specs.readers.Results.{Gives};
 ghost use Rattle.heyvl_syntax.specs.Expressions.{expression};
 ghost use Rattle.heyvl_syntax.specs.declared.marks.Mark.TheVariants as marks;
 ghost use Rattle.guarded_commands.specs.Programs.{CommandTree, block_tree, command_tree};
-ghost use Rattle.guarded_commands.specs.internal.Commands.{braced, bracketed, branch_tree, branched, command, commands, enclosed, ended_expr, fork_tree, forked, given, is_opening, is_skip, key_opening, kind_opening, mark_opening, named, named_tree, opening, opens, repeat_tree, repeated, ticked};
+ghost use Rattle.guarded_commands.specs.internal.Commands.{braced, bracketed, branch_tree};
+ghost use Rattle.guarded_commands.specs.internal.Commands.{branched, command, commands, enclosed};
+ghost use Rattle.guarded_commands.specs.internal.Commands.{ended_expr, fork_tree, forked, given};
+ghost use Rattle.guarded_commands.specs.internal.Commands.{is_opening, is_skip, key_opening};
+ghost use Rattle.guarded_commands.specs.internal.Commands.{kind_opening, mark_opening, named};
+ghost use Rattle.guarded_commands.specs.internal.Commands.{named_tree, opening, opens, repeat_tree};
+ghost use Rattle.guarded_commands.specs.internal.Commands.{repeated, ticked};
 ghost use Rattle.std.specs.Prelude.{IfOk, length, suc, ◌&&◌, ◌<◌, ◌≡◌, ◌≤◌, ℕ};
 
 use crate::programs::Command;
@@ -15,14 +22,14 @@ use heyvl_places::Name;
 use heyvl_syntax::{Expr, Key, Mark, Token, TokenKind};
 use std::alloc::Global;
 
-/// Which command begins with a token.
+/// The kind of command that a token begins.
 #[derive(Clone, Copy)]
 pub(crate) enum Opening {
-    /// `skip`, or an assignment to a word.
+    /// `skip`, or an assignment.
     Word,
     Tick,
     If,
-    /// One of two blocks.
+    /// A choice of two blocks.
     Block,
     While,
     /// No command.
@@ -82,7 +89,7 @@ fn opens(opening: Opening) -> bool
     }
 }
 
-/// Whether a command begins at the front.
+/// Returns true if a command begins with the first token.
 fn starts_command(tokens: &[Token]) -> bool
     ensures { result ≡ starts is_opening tokens.now }
 {
@@ -92,9 +99,10 @@ fn starts_command(tokens: &[Token]) -> bool
     }
 }
 
-/// An expression and the `;` behind it.
+/// Reads an expression and `;`.
 pub(crate) fn ended_expr(alloc: Global, tokens: &[Token]) -> Result<(Expr, &[Token]), PartStop>
-    ensures value { (n : ℕ) → length tokens.now < n → Gives (λ x. expression x.0) (λ x. x.1.now) result (ended_expr n tokens.now) }
+    ensures value { (n : ℕ) → length tokens.now < n
+        → Gives (λ x. expression x.0) (λ x. x.1.now) result (ended_expr n tokens.now) }
     ensures shorter { IfOk result (λ x. length x.1.now < length tokens.now) }
 {
     let (found, rest) = whole(alloc, tokens)?;
@@ -102,9 +110,10 @@ pub(crate) fn ended_expr(alloc: Global, tokens: &[Token]) -> Result<(Expr, &[Tok
     Ok((found, rest))
 }
 
-/// An expression in parentheses.
+/// Reads an expression in parentheses.
 fn enclosed(alloc: Global, tokens: &[Token]) -> Result<(Expr, &[Token]), PartStop>
-    ensures value { (n : ℕ) → length tokens.now < n → Gives (λ x. expression x.0) (λ x. x.1.now) result (enclosed n tokens.now) }
+    ensures value { (n : ℕ) → length tokens.now < n
+        → Gives (λ x. expression x.0) (λ x. x.1.now) result (enclosed n tokens.now) }
     ensures shorter { IfOk result (λ x. length x.1.now < length tokens.now) }
 {
     let (_, rest) = expect(Mark::ParenLeft, tokens)?;
@@ -113,9 +122,10 @@ fn enclosed(alloc: Global, tokens: &[Token]) -> Result<(Expr, &[Token]), PartSto
     Ok((found, rest))
 }
 
-/// `:=`, an expression and `;`.
+/// Reads `:=`, an expression and `;`.
 fn given(alloc: Global, tokens: &[Token]) -> Result<(Expr, &[Token]), PartStop>
-    ensures value { (n : ℕ) → length tokens.now < n → Gives (λ x. expression x.0) (λ x. x.1.now) result (given n tokens.now) }
+    ensures value { (n : ℕ) → length tokens.now < n
+        → Gives (λ x. expression x.0) (λ x. x.1.now) result (given n tokens.now) }
     ensures shorter { IfOk result (λ x. length x.1.now < length tokens.now) }
 {
     let (_, rest) = expect(Mark::Colon, tokens)?;
@@ -123,24 +133,25 @@ fn given(alloc: Global, tokens: &[Token]) -> Result<(Expr, &[Token]), PartStop>
     ended_expr(alloc, rest)
 }
 
-/// Whether a word is `skip`.
 fn is_skip(word: &[u8]) -> bool
     ensures { result ≡ is_skip word.now }
 {
     word == b"skip".as_slice()
 }
 
-/// Whether this word and the tokens behind it begin with `skip;`.
+/// Returns true if `word` and the tokens after it begin with `skip;`.
 fn skips(word: &Name, rest: &[Token]) -> bool
     ensures { result ≡ (is_skip word.now && starts (is_mark marks.Semi) rest.now) }
 {
     is_skip(word.as_bytes()) && starts_mark(Mark::Semi, rest)
 }
 
-/// The command at the front, which begins with a word, and the tokens behind it.
+/// Reads a command that begins with an identifier: `skip`, or an assignment.
 #[inline(never)]
 fn named(alloc: Global, tokens: &[Token]) -> Result<(Command, &[Token]), PartStop>
-    ensures value { (n : ℕ) → length tokens.now < n → Gives (λ x. command_tree x.0) (λ x. x.1.now) result (spanned named_tree (named n) tokens.now) }
+    ensures value { (n : ℕ) → length tokens.now < n
+        → Gives (λ x. command_tree x.0) (λ x. x.1.now) result
+        (spanned named_tree (named n) tokens.now) }
     ensures shorter { IfOk result (λ x. length x.1.now < length tokens.now) }
 {
     let (name, rest) = word(alloc, tokens)?;
@@ -155,10 +166,12 @@ fn named(alloc: Global, tokens: &[Token]) -> Result<(Command, &[Token]), PartSto
     ))
 }
 
-/// The `tick` at the front, and the tokens behind it.
+/// Reads a `tick`.
 #[inline(never)]
 fn ticked(alloc: Global, tokens: &[Token]) -> Result<(Command, &[Token]), PartStop>
-    ensures value { (n : ℕ) → length tokens.now < n → Gives (λ x. command_tree x.0) (λ x. x.1.now) result (spanned CommandTree.tick (ticked n) tokens.now) }
+    ensures value { (n : ℕ) → length tokens.now < n
+        → Gives (λ x. command_tree x.0) (λ x. x.1.now) result
+        (spanned CommandTree.tick (ticked n) tokens.now) }
     ensures shorter { IfOk result (λ x. length x.1.now < length tokens.now) }
 {
     let (_, rest) = expect_key(Key::Tick, tokens)?;
@@ -167,11 +180,12 @@ fn ticked(alloc: Global, tokens: &[Token]) -> Result<(Command, &[Token]), PartSt
     Ok((Command::Tick(amount, span_between(tokens, rest)), rest))
 }
 
-/// The commands of a block, with its braces.
+/// Reads the commands of a block with its braces.
 #[cycle(commands)]
 #[inline(always)]
 fn block(alloc: Global, tokens: &[Token]) -> Result<(Vec<Command>, &[Token]), PartStop>
-    ensures value { (n : ℕ) → length tokens.now ≤ n → Gives (λ x. block_tree x.0.items) (λ x. x.1.now) result (braced (commands n) tokens.now) }
+    ensures value { (n : ℕ) → length tokens.now ≤ n
+        → Gives (λ x. block_tree x.0.items) (λ x. x.1.now) result (braced (commands n) tokens.now) }
     ensures shorter { IfOk result (λ x. length x.1.now < length tokens.now) }
 {
     let (_, rest) = expect(Mark::BraceLeft, tokens)?;
@@ -180,14 +194,15 @@ fn block(alloc: Global, tokens: &[Token]) -> Result<(Vec<Command>, &[Token]), Pa
     Ok((inner, rest))
 }
 
-/// The commands at the front, as far as they go.
+/// Reads commands as long as one begins.
 #[cycle(commands)]
 #[inline(never)]
 pub(crate) fn commands(
     alloc: Global,
     tokens: &[Token],
 ) -> Result<(Vec<Command>, &[Token]), PartStop>
-    ensures value { (n : ℕ) → length tokens.now < n → Gives (λ x. block_tree x.0.items) (λ x. x.1.now) result (commands n tokens.now) }
+    ensures value { (n : ℕ) → length tokens.now < n
+        → Gives (λ x. block_tree x.0.items) (λ x. x.1.now) result (commands n tokens.now) }
     ensures shorter { IfOk result (λ x. length x.1.now ≤ length tokens.now) }
 {
     let mut found = Vec::new(alloc);
@@ -200,11 +215,13 @@ pub(crate) fn commands(
     Ok((found, rest))
 }
 
-/// The command at the front, and the tokens behind it.
+/// Reads a command.
 #[cycle(commands)]
 #[inline(always)]
 fn command(alloc: Global, tokens: &[Token]) -> Result<(Command, &[Token]), PartStop>
-    ensures value { (n : ℕ) → length tokens.now ≤ n → Gives (λ x. command_tree x.0) (λ x. x.1.now) result (command (suc n) (braced (commands n)) tokens.now) }
+    ensures value { (n : ℕ) → length tokens.now ≤ n
+        → Gives (λ x. command_tree x.0) (λ x. x.1.now) result
+        (command (suc n) (braced (commands n)) tokens.now) }
     ensures shorter { IfOk result (λ x. length x.1.now < length tokens.now) }
 {
     match opening_at(tokens) {
@@ -217,11 +234,13 @@ fn command(alloc: Global, tokens: &[Token]) -> Result<(Command, &[Token]), PartS
     }
 }
 
-/// The `if` at the front, and the tokens behind it.
+/// Reads an `if`.
 #[cycle(commands)]
 #[inline(never)]
 fn branched(alloc: Global, tokens: &[Token]) -> Result<(Command, &[Token]), PartStop>
-    ensures value { (n : ℕ) → length tokens.now ≤ n → Gives (λ x. command_tree x.0) (λ x. x.1.now) result (spanned branch_tree (branched (suc n) (braced (commands n))) tokens.now) }
+    ensures value { (n : ℕ) → length tokens.now ≤ n
+        → Gives (λ x. command_tree x.0) (λ x. x.1.now) result
+        (spanned branch_tree (branched (suc n) (braced (commands n))) tokens.now) }
     ensures shorter { IfOk result (λ x. length x.1.now < length tokens.now) }
 {
     let (_, rest) = expect_key(Key::If, tokens)?;
@@ -235,11 +254,13 @@ fn branched(alloc: Global, tokens: &[Token]) -> Result<(Command, &[Token]), Part
     ))
 }
 
-/// An expression, `]` and a block.
+/// Reads an expression, `]` and a block.
 #[cycle(commands)]
 #[inline(always)]
 fn bracketed(alloc: Global, tokens: &[Token]) -> Result<((Expr, Vec<Command>), &[Token]), PartStop>
-    ensures value { (n : ℕ) → length tokens.now ≤ n → Gives (λ x. (expression x.0.0, block_tree x.0.1.items)) (λ x. x.1.now) result (bracketed (suc n) (braced (commands n)) tokens.now) }
+    ensures value { (n : ℕ) → length tokens.now ≤ n
+        → Gives (λ x. (expression x.0.0, block_tree x.0.1.items)) (λ x. x.1.now) result
+        (bracketed (suc n) (braced (commands n)) tokens.now) }
     ensures shorter { IfOk result (λ x. length x.1.now < length tokens.now) }
 {
     let (found, rest) = whole(alloc, tokens)?;
@@ -248,11 +269,13 @@ fn bracketed(alloc: Global, tokens: &[Token]) -> Result<((Expr, Vec<Command>), &
     Ok(((found, body), rest))
 }
 
-/// The choice of two blocks at the front, and the tokens behind it.
+/// Reads a choice of two blocks.
 #[cycle(commands)]
 #[inline(never)]
 fn forked(alloc: Global, tokens: &[Token]) -> Result<(Command, &[Token]), PartStop>
-    ensures value { (n : ℕ) → length tokens.now ≤ n → Gives (λ x. command_tree x.0) (λ x. x.1.now) result (spanned fork_tree (forked (suc n) (braced (commands n))) tokens.now) }
+    ensures value { (n : ℕ) → length tokens.now ≤ n
+        → Gives (λ x. command_tree x.0) (λ x. x.1.now) result
+        (spanned fork_tree (forked (suc n) (braced (commands n))) tokens.now) }
     ensures shorter { IfOk result (λ x. length x.1.now < length tokens.now) }
 {
     let (left, rest) = block(alloc, tokens)?;
@@ -272,11 +295,13 @@ fn forked(alloc: Global, tokens: &[Token]) -> Result<(Command, &[Token]), PartSt
     ))
 }
 
-/// The `while` at the front, and the tokens behind it.
+/// Reads a `while`.
 #[cycle(commands)]
 #[inline(never)]
 fn repeated(alloc: Global, tokens: &[Token]) -> Result<(Command, &[Token]), PartStop>
-    ensures value { (n : ℕ) → length tokens.now ≤ n → Gives (λ x. command_tree x.0) (λ x. x.1.now) result (spanned repeat_tree (repeated (suc n) (braced (commands n))) tokens.now) }
+    ensures value { (n : ℕ) → length tokens.now ≤ n
+        → Gives (λ x. command_tree x.0) (λ x. x.1.now) result
+        (spanned repeat_tree (repeated (suc n) (braced (commands n))) tokens.now) }
     ensures shorter { IfOk result (λ x. length x.1.now < length tokens.now) }
 {
     let (_, rest) = expect_key(Key::While, tokens)?;

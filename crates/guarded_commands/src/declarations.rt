@@ -1,8 +1,9 @@
-//! Reading the declarations of a program.
+//! The parser of the declarations of a program.
 
 ghost use Rattle.heyvl_parse.specs.readers.Combinators.{each, starts};
 ghost use Rattle.heyvl_parse.specs.readers.Results.{Gives};
-ghost use Rattle.guarded_commands.specs.internal.Programs.{declaration, is_type, kind_type, variable_type, word_type};
+ghost use Rattle.guarded_commands.specs.internal.Programs.{declaration, is_type, kind_type};
+ghost use Rattle.guarded_commands.specs.internal.Programs.{variable_type, word_type};
 ghost use Rattle.std.specs.Prelude.{IfOk, length, ◌<◌, ◌≡◌, ◌≤◌, ℕ};
 
 use crate::programs::{Declaration, VariableType};
@@ -10,7 +11,7 @@ use heyvl_parse::{PartStop, closed, next, span_between, word};
 use heyvl_syntax::{Mark, Token, TokenKind};
 use std::alloc::Global;
 
-/// The type that a word names.
+/// Returns the type that an identifier names, if it names one.
 fn word_type(word: &[u8]) -> Option<VariableType>
     ensures { result ≡ word_type word.now }
 {
@@ -26,7 +27,7 @@ fn word_type(word: &[u8]) -> Option<VariableType>
     None
 }
 
-/// The type that a token names.
+/// Returns the type that a token names, if it names one.
 fn kind_type(kind: &TokenKind) -> Option<VariableType>
     ensures { result ≡ kind_type kind.now }
 {
@@ -38,7 +39,7 @@ fn kind_type(kind: &TokenKind) -> Option<VariableType>
     }
 }
 
-/// Whether a declaration begins at the front.
+/// Returns true if a declaration begins with the first token.
 fn starts_declaration(tokens: &[Token]) -> bool
     ensures { result ≡ starts is_type tokens.now }
 {
@@ -48,7 +49,7 @@ fn starts_declaration(tokens: &[Token]) -> bool
     }
 }
 
-/// The type at the front, and the tokens behind it.
+/// Reads the type of a variable.
 fn variable_type(tokens: &[Token]) -> Result<(VariableType, &[Token]), PartStop>
     ensures value { Gives (λ x. x.0) (λ x. x.1.now) result (variable_type tokens.now) }
     ensures shorter { IfOk result (λ x. length x.1.now < length tokens.now) }
@@ -60,7 +61,7 @@ fn variable_type(tokens: &[Token]) -> Result<(VariableType, &[Token]), PartStop>
     }
 }
 
-/// The declaration at the front, and the tokens behind it.
+/// Reads a declaration.
 fn declaration(alloc: Global, tokens: &[Token]) -> Result<(Declaration, &[Token]), PartStop>
     ensures value { Gives (λ x. x.0) (λ x. x.1.now) result (declaration tokens.now) }
     ensures shorter { IfOk result (λ x. length x.1.now < length tokens.now) }
@@ -72,12 +73,13 @@ fn declaration(alloc: Global, tokens: &[Token]) -> Result<(Declaration, &[Token]
     Ok((Declaration { ty, name, span }, rest))
 }
 
-/// The declarations at the front, as far as they go.
+/// Reads declarations as long as one begins.
 pub(crate) fn declarations(
     alloc: Global,
     tokens: &[Token],
 ) -> Result<(Vec<Declaration>, &[Token]), PartStop>
-    ensures value { (n : ℕ) → length tokens.now < n → Gives (λ x. x.0.items) (λ x. x.1.now) result (each is_type declaration n tokens.now) }
+    ensures value { (n : ℕ) → length tokens.now < n
+        → Gives (λ x. x.0.items) (λ x. x.1.now) result (each is_type declaration n tokens.now) }
     ensures shorter { IfOk result (λ x. length x.1.now ≤ length tokens.now) }
 {
     let mut found = Vec::new(alloc);

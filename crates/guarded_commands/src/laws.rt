@@ -1,7 +1,8 @@
-//! Laws of the grammar of programs and of their translation.
+//! Laws of the grammar of programs, and of their translation.
 
 ghost use Rattle.guarded_commands.specs.Laws.{ProgramFaultIsUnique, ProgramIsUnique};
-ghost use Rattle.guarded_commands.specs.TranslationFaults.{TranslationFaultIsUnique, TranslationsHaveNoFault};
+ghost use Rattle.guarded_commands.specs.TranslationFaults.{TranslationFaultIsUnique};
+ghost use Rattle.guarded_commands.specs.TranslationFaults.{TranslationsHaveNoFault};
 ghost use Rattle.guarded_commands.specs.Translations.{TranslationIsUnique, TranslationsSpell};
 
 use heyvl_print::{printable_files_are_spelled, text_ignores_places};
@@ -11,23 +12,24 @@ pub fn program_is_unique()
     ensures { ProgramIsUnique }
 {}
 
-/// Tokens have at most one first fault as a program.
+/// Tokens have at most one first error as a program.
 pub fn program_fault_is_unique()
     ensures { ProgramFaultIsUnique }
 {}
 
-/// Some tokens are translated to at most one file.
+/// Tokens are translated to at most one file.
 pub fn translation_is_unique()
     ensures { TranslationIsUnique }
 {}
 
-/// Some tokens have at most one first fault in translation, and those that are translated have none.
+/// Tokens have at most one first error in translation, and those that are translated have none.
 pub fn translation_fault_is_unique()
     ensures unique { TranslationFaultIsUnique }
     ensures none { TranslationsHaveNoFault }
 {}
 
-/// The canonical text of a file that tokens are translated to spells this file again, up to places.
+/// If the tokens of some bytes are translated to a file, its canonical text spells the same file,
+/// up to places.
 pub fn translations_are_spelled()
     ensures { TranslationsSpell }
 {

@@ -1,5 +1,5 @@
-//! The guarded command language with probabilistic and nondeterministic choice: its programs, the reading of them
-//! from tokens, and the files of HeyVL that they become.
+//! The guarded command language with probabilistic and nondeterministic choice: programs, their
+//! parser, and their translation to HeyVL. `AllocError` means that memory ran out.
 #![tactic(auto)]
 
 mod commands;

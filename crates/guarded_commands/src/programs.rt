@@ -8,13 +8,13 @@ use heyvl_syntax::Expr;
 pub enum VariableType {
     /// `bool`: true or false.
     Bool,
-    /// `nat`: a whole number from 0 on.
+    /// `nat`: an integer from 0 on.
     Nat,
-    /// `real`: a number from 0 on.
+    /// `real`: a fraction from 0 on.
     Real,
 }
 
-/// A declared variable. Its place goes from the word of its type to the `;`.
+/// A declared variable. Its place reaches from the keyword of its type to the `;`.
 #[derive(Drop)]
 pub struct Declaration {
     pub ty: VariableType,
@@ -22,7 +22,7 @@ pub struct Declaration {
     pub span: Span,
 }
 
-/// A command. Its place goes from its first byte to the end of its last token.
+/// A command. Its place reaches from its first byte to the end of its last token.
 #[cycle(commands)]
 #[derive(Drop)]
 pub enum Command {
@@ -34,15 +34,15 @@ pub enum Command {
     Tick(Expr, Span),
     /// `if (b) { .. } else { .. }`
     If(Expr, Vec<Command>, Vec<Command>, Span),
-    /// `{ .. } [p] { .. }`: the first block with probability p, else the second.
+    /// `{ .. } [p] { .. }`: the first block with probability `p`, otherwise the second.
     Mix(Expr, Vec<Command>, Vec<Command>, Span),
-    /// `{ .. } [] { .. }`: one of the two blocks.
+    /// `{ .. } [] { .. }`: one of the two blocks, chosen by the scheduler.
     Choice(Vec<Command>, Vec<Command>, Span),
     /// `while (b) [i] { .. }`, with the guard and then the invariant.
     While(Expr, Expr, Vec<Command>, Span),
 }
 
-/// A program: its variables, what is told of its start, what is collected at its end, and its commands.
+/// A program: its variables, its pre, its post and its commands.
 #[derive(Drop)]
 pub struct Program {
     pub declarations: Vec<Declaration>,

@@ -2,7 +2,8 @@
 
 ghost use Rattle.heyvl_syntax.specs.Expressions.{expression};
 ghost use Rattle.heyvl_syntax.specs.Statements.{statement};
-ghost use Rattle.guarded_commands.specs.Translation.{at_start, input, input_name, output, start, type_name};
+ghost use Rattle.guarded_commands.specs.Translation.{at_start, input, input_name, output, start};
+ghost use Rattle.guarded_commands.specs.Translation.{type_name};
 ghost use Rattle.std.specs.Prelude.{IfOk, map, ◌≡◌};
 
 use crate::programs::{Declaration, VariableType};
@@ -10,7 +11,7 @@ use heyvl_places::Name;
 use heyvl_syntax::{Expr, Param, Right, Stmt, TypeName};
 use std::alloc::{AllocError, Global};
 
-/// The type of HeyVL that a variable's type becomes.
+/// Returns the HeyVL type of a variable.
 fn type_name(ty: VariableType) -> TypeName
     ensures { result ≡ type_name ty }
 {
@@ -21,7 +22,7 @@ fn type_name(ty: VariableType) -> TypeName
     }
 }
 
-/// The input with the start value of the variable.
+/// Returns the name of the input with the start value of a variable.
 fn input_name(alloc: Global, name: &Name) -> Result<Name, AllocError>
     ensures { IfOk result (λ made. made ≡ input_name name.now) }
 {
@@ -31,7 +32,7 @@ fn input_name(alloc: Global, name: &Name) -> Result<Name, AllocError>
     Name::new(alloc, &bytes)
 }
 
-/// The input that holds the variable's first value.
+/// Returns the input with the start value of a variable.
 fn input(alloc: Global, declaration: &Declaration) -> Result<Param, AllocError>
     ensures { IfOk result (λ made. made ≡ input declaration.now) }
 {
@@ -42,7 +43,7 @@ fn input(alloc: Global, declaration: &Declaration) -> Result<Param, AllocError>
     })
 }
 
-/// The output that the variable becomes.
+/// Returns the output of a variable.
 fn output(alloc: Global, declaration: &Declaration) -> Result<Param, AllocError>
     ensures { IfOk result (λ made. made ≡ output declaration.now) }
 {
@@ -53,7 +54,7 @@ fn output(alloc: Global, declaration: &Declaration) -> Result<Param, AllocError>
     })
 }
 
-/// The inputs of the variables, in their order.
+/// Returns the inputs of the variables, in their order.
 pub(crate) fn inputs(alloc: Global, declarations: &[Declaration]) -> Result<Vec<Param>, AllocError>
     ensures { IfOk result (λ made. made.items ≡ map input declarations.now) }
 {
@@ -64,7 +65,7 @@ pub(crate) fn inputs(alloc: Global, declarations: &[Declaration]) -> Result<Vec<
     Ok(made)
 }
 
-/// The outputs of the variables, in their order.
+/// Returns the outputs of the variables, in their order.
 pub(crate) fn outputs(alloc: Global, declarations: &[Declaration]) -> Result<Vec<Param>, AllocError>
     ensures { IfOk result (λ made. made.items ≡ map output declarations.now) }
 {
@@ -75,7 +76,7 @@ pub(crate) fn outputs(alloc: Global, declarations: &[Declaration]) -> Result<Vec
     Ok(made)
 }
 
-/// `x = init_x`
+/// Returns `x = init_x`.
 fn start(alloc: Global, declaration: &Declaration) -> Result<Stmt, AllocError>
     ensures { IfOk result (λ made. statement made ≡ start declaration.now) }
 {
@@ -85,7 +86,7 @@ fn start(alloc: Global, declaration: &Declaration) -> Result<Stmt, AllocError>
     Ok(Stmt::Assign(targets, Right::Plain(value), span))
 }
 
-/// `x = init_x` for each variable, in their order.
+/// Returns `x = init_x` for each variable, in their order.
 pub(crate) fn starts(alloc: Global, declarations: &[Declaration]) -> Result<Vec<Stmt>, AllocError>
     ensures { IfOk result (λ made. map statement made.items ≡ map start declarations.now) }
 {
@@ -96,7 +97,7 @@ pub(crate) fn starts(alloc: Global, declarations: &[Declaration]) -> Result<Vec<
     Ok(made)
 }
 
-/// The expression with the inputs in place of the variables.
+/// Returns an expression with `init_x` for each variable `x`.
 pub(crate) fn at_start(alloc: Global, value: &Expr) -> Result<Expr, AllocError>
     ensures { IfOk result (λ made. expression made ≡ at_start (expression value.now)) }
 {

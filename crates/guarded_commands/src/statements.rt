@@ -1,9 +1,10 @@
-//! The statements that commands become.
+//! The statements of commands.
 
 ghost use Rattle.heyvl_syntax.specs.Expressions.{Expression, expression};
 ghost use Rattle.heyvl_syntax.specs.Statements.{RightSide, Statement, block, statement};
 ghost use Rattle.guarded_commands.specs.Programs.{block_tree, command_tree};
-ghost use Rattle.guarded_commands.specs.Translation.{arm, lines, pick_name, picks, picks_in, statements};
+ghost use Rattle.guarded_commands.specs.Translation.{arm, lines, pick_name, picks, picks_in};
+ghost use Rattle.guarded_commands.specs.Translation.{statements};
 ghost use Rattle.std.specs.Prelude.{[], IfOk, OnOk, map, ◌+◌, ◌<◌, ◌^◌, ◌≡◌, ◌∷◌};
 
 use crate::lines::{assignment, branch, enclosed, nothing, picked, repetition, reward, toss};
@@ -12,7 +13,7 @@ use heyvl_places::Span;
 use heyvl_syntax::{Expr, Stmt, TypeName};
 use std::alloc::{AllocError, Global};
 
-/// The number of the choice that comes now. The next one has the number behind it.
+/// Returns the number of the next probabilistic choice, and increases `next`.
 fn next_pick(next: &mut u32) -> u32
     requires { next.old + 1 < 2 ^ 32 }
     ensures given { result ≡ next.old }
@@ -23,14 +24,15 @@ fn next_pick(next: &mut u32) -> u32
     number
 }
 
-/// This statement alone.
+/// Returns the list of one statement.
 fn single(alloc: Global, one: Stmt) -> Result<Vec<Stmt>, AllocError>
     ensures { IfOk result (λ made. map statement made.items ≡ statement one ∷ []) }
 {
     Ok(vec![in alloc; one]?)
 }
 
-/// The statements of a choice of the first block with this probability, and the second else, which has this number.
+/// Returns the statements of a probabilistic choice with this number: the block `left` with this
+/// probability, otherwise `right`.
 fn mixed(
     alloc: Global,
     number: u32,
@@ -39,8 +41,11 @@ fn mixed(
     right: Vec<Stmt>,
     span: Span,
 ) -> Result<Vec<Stmt>, AllocError>
-    ensures { IfOk result (λ made. map statement made.items ≡ Statement.var (pick_name number) TypeName.Bool (Some (RightSide.flip (expression probability.now))) span
-        ∷ Statement.branch (arm (Expression.name (pick_name number) span) (block left.items)) (block right.items) span ∷ []) }
+    ensures { IfOk result (λ made. map statement made.items
+        ≡ Statement.var (pick_name number) TypeName.Bool
+        (Some (RightSide.flip (expression probability.now))) span
+        ∷ Statement.branch (arm (Expression.name (pick_name number) span) (block left.items))
+        (block right.items) span ∷ []) }
 {
     let mut made = Vec::with_capacity(alloc, 2)?;
     made.push(toss(alloc, number, probability, span)?)?;
@@ -49,11 +54,12 @@ fn mixed(
     Ok(made)
 }
 
-/// The statements of a command. Its first probabilistic choice has the number `next`.
+/// Returns the statements of a command. Its first probabilistic choice has the number `next`.
 #[cycle(translating)]
 fn lines(alloc: Global, next: &mut u32, command: &Command) -> Result<Vec<Stmt>, AllocError>
     requires { next.old + picks (command_tree command.now) < 2 ^ 32 }
-    ensures lines { IfOk result (λ made. map statement made.items ≡ lines next.old (command_tree command.now)) }
+    ensures lines { IfOk result (λ made. map statement made.items
+        ≡ lines next.old (command_tree command.now)) }
     ensures picks { OnOk result (next.new ≡ next.old + picks (command_tree command.now)) }
 {
     match command {
@@ -84,7 +90,7 @@ fn lines(alloc: Global, next: &mut u32, command: &Command) -> Result<Vec<Stmt>, 
     }
 }
 
-/// The statements of a block. Its first probabilistic choice has the number `next`.
+/// Returns the statements of a block. Its first probabilistic choice has the number `next`.
 #[cycle(translating)]
 pub(crate) fn statements(
     alloc: Global,
@@ -92,7 +98,8 @@ pub(crate) fn statements(
     commands: &[Command],
 ) -> Result<Vec<Stmt>, AllocError>
     requires { next.old + picks_in (block_tree commands.now) < 2 ^ 32 }
-    ensures lines { IfOk result (λ made. map statement made.items ≡ statements next.old (block_tree commands.now)) }
+    ensures lines { IfOk result (λ made. map statement made.items
+        ≡ statements next.old (block_tree commands.now)) }
     ensures picks { OnOk result (next.new ≡ next.old + picks_in (block_tree commands.now)) }
 {
     let mut made = Vec::new(alloc);

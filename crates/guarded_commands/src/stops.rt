@@ -1,4 +1,4 @@
-//! Why tokens are not taken as a program of guarded commands.
+//! Why tokens are not read or translated as a program of guarded commands.
 
 ghost use Rattle.guarded_commands.specs.declared.stops.PgclStop.TheVariants.{Memory};
 ghost use Rattle.std.specs.Prelude.{◌≡◌};
@@ -6,12 +6,13 @@ ghost use Rattle.std.specs.Prelude.{◌≡◌};
 use std::alloc::AllocError;
 use thiserror::Error;
 
-/// Why tokens are not taken as a program.
+/// The error of tokens that have to spell a program.
 #[derive(Debug, Drop, Error)]
 pub enum PgclStop {
-    /// The first fault of the tokens, with its number and the index of the token at which it stands: 5 where the load passes 200, 30
-    /// at the first token with which no program goes on, or at the number of tokens where they end too early, and of a program that is
-    /// translated 31 at the first reserved name.
+    /// The first error of the tokens: its number and the index of its token. It is 5 at the first
+    /// token after which the load exceeds 200, otherwise 30 at the first token with which no
+    /// program goes on, or at the number of tokens if they end too early, and in translation 31 at
+    /// the first reserved name.
     #[error("fault {0} at the token {1}")]
     Fault(u8, u32),
     /// Memory ran out.

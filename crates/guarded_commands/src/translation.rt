@@ -1,4 +1,4 @@
-//! The file that tokens of a program become.
+//! The translation of tokens to a file.
 
 ghost use Rattle.heyvl_syntax.specs.Procedures.{procedure, procedures};
 ghost use Rattle.heyvl_syntax.specs.Statements.{block, block_of};
@@ -7,10 +7,12 @@ ghost use Rattle.guarded_commands.specs.Grammar.{IsProgram};
 ghost use Rattle.guarded_commands.specs.ProgramFaults.{IsPgclMemory, IsThisPgclStop};
 ghost use Rattle.guarded_commands.specs.Programs.{ProgramTree, block_tree, program_tree};
 ghost use Rattle.guarded_commands.specs.ReservedNames.{IsTranslatable};
-ghost use Rattle.guarded_commands.specs.Translation.{first_place, picks_in, start, statements as statements_of, translated};
+ghost use Rattle.guarded_commands.specs.Translation.{first_place, picks_in, start};
+ghost use Rattle.guarded_commands.specs.Translation.{statements as statements_of, translated};
 ghost use Rattle.guarded_commands.specs.TranslationFaults.{IsTranslationFault, IsTranslationStop};
 ghost use Rattle.guarded_commands.specs.Translations.{IsTranslation};
-ghost use Rattle.std.specs.Prelude.{[], IfErr, IfOk, MatchResult, length, map, ◌++◌, ◌<◌, ◌^◌, ◌≡◌, ◌∷◌, ℕ};
+ghost use Rattle.std.specs.Prelude.{[], IfErr, IfOk, MatchResult, length, map, ◌++◌, ◌<◌, ◌^◌, ◌≡◌};
+ghost use Rattle.std.specs.Prelude.{◌∷◌, ℕ};
 
 use crate::program_reader::parse_program;
 use crate::programs::Program;
@@ -22,7 +24,7 @@ use heyvl_places::{Name, Span};
 use heyvl_syntax::{File, Proc, Stmt, Token};
 use std::alloc::{AllocError, Global};
 
-/// The place of the first token.
+/// Returns the place of the first token.
 fn first_place(tokens: &[Token]) -> Span
     ensures { result ≡ first_place tokens.now }
 {
@@ -32,10 +34,13 @@ fn first_place(tokens: &[Token]) -> Span
     }
 }
 
-/// The statements of the coproc: `x = init_x` for each variable, and those that the commands become.
+/// Returns the statements of the coproc: `x = init_x` for each variable, then the statements of the
+/// commands.
 fn body(alloc: Global, program: &Program) -> Result<Vec<Stmt>, AllocError>
     requires { picks_in (block_tree program.now.body.items) < 2 ^ 31 }
-    ensures { IfOk result (λ made. block made.items ≡ block_of (map start program.now.declarations.items ++ statements_of 1 (block_tree program.now.body.items))) }
+    ensures { IfOk result (λ made. block made.items
+        ≡ block_of (map start program.now.declarations.items
+        ++ statements_of 1 (block_tree program.now.body.items))) }
 {
     let mut made = starts(alloc, &program.declarations)?;
     let mut next = 1_u32;
@@ -44,7 +49,7 @@ fn body(alloc: Global, program: &Program) -> Result<Vec<Stmt>, AllocError>
     Ok(made)
 }
 
-/// The coproc that the program becomes, at this place.
+/// Returns the coproc of `program`, at `place`.
 fn main_procedure(alloc: Global, place: Span, program: &Program) -> Result<Proc, AllocError>
     requires { picks_in (block_tree program.now.body.items) < 2 ^ 31 }
     ensures { IfOk result (λ made. procedure made ≡ translated place (program_tree program.now)) }
@@ -68,10 +73,11 @@ fn main_procedure(alloc: Global, place: Span, program: &Program) -> Result<Proc,
     })
 }
 
-/// The file of the coproc that the program becomes, at this place.
+/// Returns the file of the coproc of `program`, at `place`.
 fn file_of(alloc: Global, place: Span, program: &Program) -> Result<File, AllocError>
     requires { picks_in (block_tree program.now.body.items) < 2 ^ 31 }
-    ensures { IfOk result (λ file. procedures file ≡ translated place (program_tree program.now) ∷ []) }
+    ensures { IfOk result (λ file. procedures file ≡ translated place (program_tree program.now)
+        ∷ []) }
 {
     let main = main_procedure(alloc, place, program)?;
     Ok(File {
@@ -79,7 +85,8 @@ fn file_of(alloc: Global, place: Span, program: &Program) -> Result<File, AllocE
     })
 }
 
-/// The file that the program which these tokens spell becomes, or the first reserved name among them.
+/// Translates `program`, which the tokens spell, or returns the first reserved name among the
+/// tokens.
 fn file_or_reserved(alloc: Global, tokens: &[Token], program: &Program) -> Result<File, PgclStop>
     requires short { length tokens.now < 2 ^ 31 }
     requires spelled { IsLight tokens.now × IsProgram (program_tree program.now) tokens.now }
@@ -92,7 +99,7 @@ fn file_or_reserved(alloc: Global, tokens: &[Token], program: &Program) -> Resul
     }
 }
 
-/// The file that the tokens of a program become, or their first fault.
+/// Translates the tokens, or returns their first error.
 fn file_or_fault(alloc: Global, tokens: &[Token]) -> Result<File, PgclStop>
     requires { length tokens.now < 2 ^ 31 }
     ensures found { IfOk result (λ file. IsTranslation tokens.now (procedures file)) }
@@ -102,17 +109,26 @@ fn file_or_fault(alloc: Global, tokens: &[Token]) -> Result<File, PgclStop>
     file_or_reserved(alloc, tokens, &program)
 }
 
-/// The file that the tokens become, where they are fewer than 2^31: one coproc `main`, whose inputs are the start values of the
-/// variables and whose outputs are the variables. It is refused where the tokens have a fault as a program, with the first one of them:
-/// 5 where the load passes 200; else 30 at the first token with which no program goes on, a `sup` or `inf` among them, or at the number
-/// of tokens where they end too early; else 31 at the first word that begins with `init_` or `pick_`, or that declares `skip`; and for
-/// want of memory.
+/// Translates the tokens of a program, which have to be fewer than 2^31, to a file. The file has
+/// one coproc `main`, whose inputs are the start values of the variables and whose outputs are the
+/// variables.
+///
+/// # Errors
+///
+/// `Fault` with the first error of the tokens, or `Memory`. The error is one of:
+/// - 5 at the first token after which the load exceeds 200;
+/// - 30 at the first token with which no program goes on, which may be `sup` or `inf`, or at the
+///   number of tokens if they end too early;
+/// - 31 at the first identifier that begins with `init_` or `pick_`, or that declares `skip`.
 pub fn translate(alloc: Global, tokens: &[Token]) -> Result<File, PgclStop>
     requires { length tokens.now < 2 ^ 31 }
     ensures found { IfOk result (λ file. IsTranslation tokens.now (procedures file)) }
-    ensures only { (program : ProgramTree) → IsTranslatable program tokens.now → MatchResult result (λ file. procedures file ≡ translated (first_place tokens.now) program ∷ []) (λ stop. IsPgclMemory stop) }
+    ensures only { (program : ProgramTree) → IsTranslatable program tokens.now
+        → MatchResult result (λ file. procedures file ≡ translated (first_place tokens.now) program
+        ∷ []) (λ stop. IsPgclMemory stop) }
     ensures fault { IfErr result (λ stop. IsTranslationStop tokens.now stop) }
-    ensures only_fault { (number i : ℕ) → IsTranslationFault tokens.now number i → MatchResult result (λ _. ⊥) (λ stop. IsThisPgclStop number i stop) }
+    ensures only_fault { (number i : ℕ) → IsTranslationFault tokens.now number i
+        → MatchResult result (λ _. ⊥) (λ stop. IsThisPgclStop number i stop) }
 {
     file_or_fault(alloc, tokens)
 }

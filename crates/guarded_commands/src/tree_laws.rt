@@ -1,8 +1,8 @@
-//! Laws of trees: the plain trees that definitions read in place of the trees in memory.
+//! Laws that give the plain trees of programs in memory.
 
 ghost use Rattle.guarded_commands.specs.PlainCommands.{PlainCommands};
 
-/// What the plain tree of each variant of a command is.
+/// Gives the plain tree of each variant of a command.
 pub fn commands_are_plain()
     ensures { PlainCommands }
 {}
