@@ -1,6 +1,7 @@
--- The file that a program of guarded commands becomes. It is one coproc whose inputs are the start values of the variables and whose
--- outputs are the variables. The translation is this project's own. A node that is made here has the place of the declaration or
--- command for which it is made, and the coproc that of the first token.
+-- The translation of a program of guarded commands: one coproc, whose inputs are the start values
+-- of the variables and whose outputs are the variables. A node that the translation introduces has
+-- the place of its declaration or command, and the coproc has that of the first token. This
+-- project's own.
 use Rattle.heyvl_places.specs.declared.spans.Span.{Span}
 use Rattle.heyvl_syntax.specs.Expressions.{Expression}
 use Rattle.heyvl_syntax.specs.Procedures.{Procedure}
@@ -16,21 +17,21 @@ use Rattle.guarded_commands.specs.declared.programs.VariableType.TheVariants as 
 use Rattle.guarded_commands.specs.declared.programs.VariableType.{VariableType}
 use Rattle.std.specs.Prelude.{List, None, Some, [], codes, decimal, map, true, ◌++◌, ◌+◌, ◌∷◌, ℕ}
 
--- The input with the start value of a variable.
+-- The name of the input with the start value of the variable `x`: `init_x`.
 abbrev pub input_name : List ℕ → List ℕ
 input_name x = codes "init_" ++ x
 
--- The variable of the j-th probabilistic choice, from 1.
+-- The variable of the `j`-th probabilistic choice, counted from 1: `pick_j`.
 abbrev pub pick_name : ℕ → List ℕ
 pick_name j = codes "pick_" ++ decimal j
 
--- The type of HeyVL that a variable's type becomes.
+-- The HeyVL type of a variable: `nat` becomes `UInt`, and `real` becomes `UReal`.
 abbrev pub type_name : VariableType → TypeName
 type_name types.Bool = names.Bool
 type_name types.Nat = names.UInt
 type_name types.Real = names.UReal
 
--- How many probabilistic choices a command and a block hold.
+-- The number of probabilistic choices in a command, and in a block.
 abbrev mutual
   pub picks : CommandTree → ℕ
   picks (CommandTree.skip s) = 0
@@ -41,46 +42,53 @@ abbrev mutual
   picks (CommandTree.choice a b s) = picks_in a + picks_in b
   picks (CommandTree.repeat g i a s) = picks_in a
 
-  -- Those of a block.
+  -- The number of probabilistic choices in a block.
   pub picks_in : BlockTree → ℕ
   picks_in BlockTree.done = 0
   picks_in (BlockTree.next x xs) = picks x + picks_in xs
 
--- One arm of an if.
+-- The arm of an `if` with one guard.
 abbrev pub arm : Expression → Block → Arms
 arm g a = Arms.arm g a Arms.no_arm
 
--- The statements of a command and of a block, where the next probabilistic choice is the j-th of the program. They are counted by
--- their first tokens, so an outer one comes before those inside it.
+-- `lines j c`: the statements of the command `c`, whose first probabilistic choice is the `j`-th of
+-- the program. Choices are counted by their first token, so that an outer one comes before those
+-- inside it.
 abbrev mutual
   pub lines : ℕ → CommandTree → List Statement
-  -- skip; becomes if true { } else { }
-  lines j (CommandTree.skip s) = Statement.branch (arm (Expression.truth true s) Block.done) Block.done s ∷ []
-  -- x := e; becomes x = e
+  -- `skip;` becomes `if true { } else { }`.
+  lines j (CommandTree.skip s) =
+      Statement.branch (arm (Expression.truth true s) Block.done) Block.done s ∷ []
+  -- `x := e;` becomes `x = e`.
   lines j (CommandTree.assign x e s) = Statement.assign (x ∷ []) (RightSide.plain e) s ∷ []
-  -- tick(e); becomes reward e
+  -- `tick(e);` becomes `reward e`.
   lines j (CommandTree.tick e s) = Statement.reward e s ∷ []
-  -- if (b) P else Q stays
+  -- `if (b) P else Q` remains.
   lines j (CommandTree.branch g a b s) =
-      Statement.branch (arm (Expression.group g s) (heyvl.block_of (statements j a))) (heyvl.block_of (statements (j + picks_in a) b)) s ∷ []
-  -- P [p] Q becomes var pick_j: Bool = flip(p), and then if pick_j P else Q
+      Statement.branch (arm (Expression.group g s) (heyvl.block_of (statements j a)))
+      (heyvl.block_of (statements (j + picks_in a) b)) s ∷ []
+  -- `P [p] Q` becomes `var pick_j: Bool = flip(p)` and `if pick_j P else Q`.
   lines j (CommandTree.mix p a b s) =
       Statement.var (pick_name j) names.Bool (Some (RightSide.flip p)) s
-      ∷ Statement.branch (arm (Expression.name (pick_name j) s) (heyvl.block_of (statements (j + 1) a))) (heyvl.block_of (statements (j + 1 + picks_in a) b)) s
+      ∷ Statement.branch (arm (Expression.name (pick_name j) s)
+      (heyvl.block_of (statements (j + 1) a)))
+      (heyvl.block_of (statements (j + 1 + picks_in a) b)) s
       ∷ []
-  -- P [] Q becomes if \cup P else Q
+  -- `P [] Q` becomes `if \cup P else Q`.
   lines j (CommandTree.choice a b s) =
-      Statement.pick true (heyvl.block_of (statements j a)) (heyvl.block_of (statements (j + picks_in a) b)) s ∷ []
-  -- while (b) [I] P becomes @invariant(I) while (b) P
+      Statement.pick true (heyvl.block_of (statements j a))
+      (heyvl.block_of (statements (j + picks_in a) b)) s ∷ []
+  -- `while (b) [I] P` becomes `@invariant(I) while (b) P`.
   lines j (CommandTree.repeat g i a s) =
-      Statement.loop (LoopRule.invariant i s ∷ []) (Expression.group g s) (heyvl.block_of (statements j a)) s ∷ []
+      Statement.loop (LoopRule.invariant i s ∷ []) (Expression.group g s)
+      (heyvl.block_of (statements j a)) s ∷ []
 
-  -- The statements of a block whose first choice has the number j.
+  -- The statements of a block whose first probabilistic choice is the `j`-th of the program.
   pub statements : ℕ → BlockTree → List Statement
   statements j BlockTree.done = []
   statements j (BlockTree.next x xs) = lines j x ++ statements (j + picks x) xs
 
--- The expression with the inputs in place of the variables.
+-- An expression with `init_x` for each variable `x`.
 abbrev pub at_start : Expression → Expression
 at_start (Expression.number n s) = Expression.number n s
 at_start (Expression.truth b s) = Expression.truth b s
@@ -94,19 +102,20 @@ at_start (Expression.binary op a b s) = Expression.binary op (at_start a) (at_st
 at_start (Expression.choice a b c s) = Expression.choice (at_start a) (at_start b) (at_start c) s
 at_start (Expression.bound up x t a s) = Expression.bound up x t (at_start a) s
 
--- The input that holds a variable's first value.
+-- The input with the start value of a variable.
 abbrev pub input : Declaration → Param
 input d = record { name = input_name d.name; ty = type_name d.ty; span = d.span }
 
--- The output that a variable becomes.
+-- The output of a variable.
 abbrev pub output : Declaration → Param
 output d = record { name = d.name; ty = type_name d.ty; span = d.span }
 
--- x = init_x
+-- `x = init_x`
 abbrev pub start : Declaration → Statement
-start d = Statement.assign (d.name ∷ []) (RightSide.plain (Expression.name (input_name d.name) d.span)) d.span
+start d = Statement.assign (d.name ∷ [])
+    (RightSide.plain (Expression.name (input_name d.name) d.span)) d.span
 
--- The coproc that a program becomes, at this place.
+-- The coproc of the program `p`, at `place`.
 abbrev pub translated : Span → ProgramTree → Procedure
 translated place p = record {
   co = true;
@@ -120,7 +129,7 @@ translated place p = record {
   span = place;
 }
 
--- The place of the first token.
+-- The place of the first token, or 0 to 0 if there is no token.
 abbrev pub first_place : List Token → Span
 first_place [] = record { from = 0; to = 0 }
 first_place (t ∷ ts) = t.span

@@ -1,4 +1,4 @@
--- The first fault of tokens that should be translated.
+-- The first error of tokens that have to be translated. This project's own.
 use Rattle.heyvl_syntax.specs.Procedures.{Procedure}
 use Rattle.heyvl_syntax.specs.SourceFaults.{IsLight}
 use Rattle.heyvl_syntax.specs.declared.tokens.Token.{Token}
@@ -11,29 +11,34 @@ use Rattle.guarded_commands.specs.declared.stops.PgclStop.TheVariants as stops
 use Rattle.guarded_commands.specs.declared.stops.PgclStop.{PgclStop}
 use Rattle.std.specs.Prelude.{List, length, ◌≡◌, ℕ}
 
--- The tokens are light and spell a program, and the first of them that is reserved there has this index.
+-- The tokens spell a program within the limit of the load, and their first reserved name has the
+-- index `i`.
 pub record IsReservedFault (tokens : List Token) (i : ℕ) : Type 0 where
   pub program : ProgramTree
   pub light : IsLight tokens
   pub spelled : IsProgram program tokens
   pub first : IsFirstReserved (length program.declarations) tokens i
 
--- The first fault of the tokens has this number and stands at this index: 5 or 30 where they spell no program within the limits, and
--- else 31 at the first reserved name.
+-- `IsTranslationFault tokens number i`: the first error of `tokens` is `number` at the index `i`.
+-- It is 5 or 30 if they spell no program within the limit of the load, otherwise 31 at the first
+-- reserved name.
 pub data IsTranslationFault (tokens : List Token) (number i : ℕ) : Type 0 where
   unspelled : IsProgramFault tokens number i → IsTranslationFault tokens number i
   reserved : number ≡ 31 → IsReservedFault tokens i → IsTranslationFault tokens number i
 
--- The tokens have the fault that is told. Want of memory says nothing.
+-- `IsTranslationStop tokens stop`: `stop` is the first error of `tokens` in translation, or says
+-- that memory ran out.
 abbrev pub IsTranslationStop : List Token → PgclStop → Type 0
 IsTranslationStop tokens (stops.Fault number i) = IsTranslationFault tokens number i
 IsTranslationStop tokens (stops.Memory error) = Unit {0}
 
--- Some tokens have at most one first fault in translation.
+-- Tokens have at most one first error in translation.
 abbrev pub TranslationFaultIsUnique : Type 0
 TranslationFaultIsUnique =
-    (tokens : List Token) (number other i j : ℕ) → IsTranslationFault tokens number i → IsTranslationFault tokens other j → (number ≡ other) × (i ≡ j)
+    (tokens : List Token) (number other i j : ℕ) → IsTranslationFault tokens number i
+    → IsTranslationFault tokens other j → (number ≡ other) × (i ≡ j)
 
--- Tokens that are translated have no fault.
+-- Tokens that are translated have no error.
 abbrev pub TranslationsHaveNoFault : Type 0
-TranslationsHaveNoFault = (tokens : List Token) (file : List Procedure) (number i : ℕ) → IsTranslation tokens file → IsTranslationFault tokens number i → ⊥
+TranslationsHaveNoFault = (tokens : List Token) (file : List Procedure) (number i : ℕ)
+    → IsTranslation tokens file → IsTranslationFault tokens number i → ⊥

@@ -1,5 +1,6 @@
 -- Reading whole programs.
-use Rattle.heyvl_parse.specs.readers.Combinators.{each, ended, is_key, is_there, lead, spanned, trail}
+use Rattle.heyvl_parse.specs.readers.Combinators.{each, ended, is_key, is_there, lead, spanned}
+use Rattle.heyvl_parse.specs.readers.Combinators.{trail}
 use Rattle.heyvl_parse.specs.readers.ReadParts.{Read, is_mark, mapped, pair, one, word, ◌>>=◌}
 use Rattle.heyvl_places.specs.declared.spans.Span.{Span}
 use Rattle.heyvl_syntax.specs.Expressions.{Expression}
@@ -17,7 +18,7 @@ use Rattle.guarded_commands.specs.internal.Commands.{commands, ended_expr}
 use Rattle.std.specs.Cmp.Lexicographic.{pointwise}
 use Rattle.std.specs.Prelude.{Bool, List, None, Option, Some, cond, nat_eq, ℕ}
 
--- The type that a word names.
+-- The type that an identifier names.
 abbrev pub word_type : List ℕ → Option VariableType
 word_type w =
     cond (pointwise nat_eq w (type_word types.Bool)) (Some types.Bool)
@@ -30,7 +31,7 @@ kind_type (kinds.Key k) = None
 kind_type (kinds.Number n) = None
 kind_type (kinds.Mark m) = None
 
--- Whether a declaration begins with a token.
+-- Whether a token begins a declaration.
 abbrev pub is_type : TokenKind → Bool
 is_type k = is_there (kind_type k)
 
@@ -40,18 +41,18 @@ variable_type ts = one (λ t. kind_type t.kind) ts
 abbrev pub declaration_tree : VariableType × List ℕ → Span → Declaration
 declaration_tree p s = record { ty = p.0; name = p.1; span = s }
 
--- ('bool'|'nat'|'real') W ';'
+-- `('bool'|'nat'|'real') W ';'`
 abbrev pub declared : List Token → Read (VariableType × List ℕ)
 declared ts = pair variable_type (trail word (is_mark marks.Semi)) ts
 
 abbrev pub declaration : List Token → Read Declaration
 declaration ts = spanned declaration_tree declared ts
 
--- 'pre' expr ';'
+-- `'pre' expr ';'`
 abbrev pub before : ℕ → List Token → Read Expression
 before n ts = lead (is_key keys.Pre) (ended_expr n) ts
 
--- 'post' expr ';'
+-- `'post' expr ';'`
 abbrev pub after : ℕ → List Token → Read Expression
 after n ts = lead (is_key keys.Post) (ended_expr n) ts
 
@@ -61,10 +62,10 @@ Parts = List Declaration × (Expression × (Expression × BlockTree))
 abbrev pub parts_tree : Parts → ProgramTree
 parts_tree p = record { declarations = p.0; pre = p.1.0; post = p.1.1.0; body = p.1.1.1 }
 
--- The parts of a program, as far as they go.
+-- Reads the parts of a program.
 abbrev pub parts : ℕ → List Token → Read Parts
 parts n ts = pair (each is_type declaration n) (pair (before n) (pair (after n) (commands n))) ts
 
--- A program that is all of the tokens, quantifiers allowed.
+-- Reads a program, which may have quantifiers, and after which no token may be left.
 abbrev pub program : ℕ → List Token → Read ProgramTree
 program n ts = mapped parts_tree (parts n) ts >>= ended
