@@ -1,4 +1,4 @@
--- Tokens that spell an item again, but for its places, put together production by production.
+-- Tokens that spell an item again, up to places, production by production.
 use Rattle.heyvl_print.proofs.exported.Printables.{printable_append, printable_back, printable_front}
 use Rattle.heyvl_print.specs.Printable.{ArePrintable, IsPrintable}
 use Rattle.heyvl_print.specs.WithoutPlaces.{no_place}
@@ -14,13 +14,13 @@ use Rattle.heyvl_syntax.specs.declared.tokens.TokenKind.TheVariants as kinds
 use Rattle.heyvl_syntax.specs.declared.tokens.TokenKind.{TokenKind}
 use Rattle.std.proofs.Common.{List, [], inl, refl, subst, ◌++◌, ◌∷◌, ◌≡◌, ℕ}
 
--- Tokens of a production, which bytes can have.
+-- Printable tokens of a production.
 pub record Has (P : List Token → Type 0) : Type 0 where
   pub text : List Token
   pub is : P text
   pub printable : ArePrintable text
 
--- An item that differs from this one in what e drops alone, and its tokens.
+-- An item that differs from `x` only in what `e` drops, and its tokens.
 pub record Again {A B : Type 0} (e : A → B) (P : A → List Token → Type 0) (x : A) : Type 0 where
   pub item : A
   pub same : e x ≡ e item
@@ -61,6 +61,5 @@ front_of P Q ts h p = record { text = h.0; is = h.2; printable = printable_front
 pub back_of : (P Q : List Token → Type 0) (ts : List Token) → (P then Q) ts → ArePrintable ts → Has Q
 back_of P Q ts h p = record { text = h.1; is = h.3; printable = printable_back ts h.0 h.1 h.4 p }
 
--- The word is one that bytes can have.
 pub name_printable : (x : List ℕ) (ts : List Token) → IsName x ts → ArePrintable ts → IsPrintable (kinds.Word x)
 name_printable x ts h p = (subst (λ (z : List Token). ArePrintable z) h.1 p).0

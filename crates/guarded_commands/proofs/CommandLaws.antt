@@ -24,7 +24,7 @@ enclosed_laws n = lead_laws (mark_test marks.ParenLeft) (trail_laws (mark_test m
 some_enclosed : Some_text IsEnclosed
 some_enclosed = some_lead (kinds.Mark marks.ParenLeft) (some_trail (kinds.Mark marks.ParenRight) some_full)
 
--- expr ';'
+-- `expr ';'`
 abbrev pub IsEnded : Expression → List Token → Type 0
 IsEnded a = IsFull a then IsMark marks.Semi
 
@@ -44,12 +44,12 @@ given_laws n =
 some_given : Some_text IsGiven
 some_given = some_lead (kinds.Mark marks.Colon) (some_lead (kinds.Mark marks.Assign) some_ended)
 
--- 'skip' ';' | W ':' '=' expr ';'
+-- `'skip' ';' | W ':' '=' expr ';'`
 abbrev IsNamed : Named → List Token → Type 0
 IsNamed Named.skipping = IsName (codes "skip") then IsMark marks.Semi
 IsNamed (Named.giving x e) = IsName x then IsGiven e
 
--- What stands behind a word.
+-- What follows the identifier of a command.
 abbrev IsBehind : List ℕ → Named → List Token → Type 0
 IsBehind w Named.skipping text = (w ≡ codes "skip") × IsMark marks.Semi text
 IsBehind w (Named.giving x e) text = (x ≡ w) × IsGiven e text
@@ -109,7 +109,7 @@ ticked_laws n = lead_laws (key_test keys.Tick) (trail_laws (mark_test marks.Semi
 some_block : Some_text IsPblock
 some_block = some_lead (kinds.Mark marks.BraceLeft) (some_trail {P = IsCommands} (kinds.Mark marks.BraceRight) (BlockTree.done, [], refl))
 
--- expr ']' pblock
+-- `expr ']' pblock`
 abbrev IsBracketed : Expression × BlockTree → List Token → Type 0
 IsBracketed p = IsFull p.0 then IsMark marks.BracketRight then IsPblock p.1
 
@@ -126,7 +126,7 @@ IsBranched p = IsKey keys.If then IsEnclosed p.0 then IsPblock p.1.0 then IsKey 
 abbrev IsRepeated : Repeated → List Token → Type 0
 IsRepeated p = IsKey keys.While then IsEnclosed p.0 then IsMark marks.BracketLeft then IsBracketed p.1
 
--- No expression begins with ']'.
+-- No expression begins with `]`.
 close_barred : IsBarred (is_mark marks.BracketRight)
 close_barred k e s ts n = rw ((mark_test marks.BracketRight).only k e) refl
 
@@ -136,11 +136,11 @@ some_bracketed = some_both some_full (some_lead (kinds.Mark marks.BracketRight) 
 some_side : Some_text IsSide
 some_side = let (b, text, h) = some_lead (kinds.Mark marks.BracketRight) some_block in (Side.free b, text, h)
 
--- A block begins with its brace.
+-- A block begins with `{`.
 block_first : (one two text rest : List Token) (a : BlockTree) → IsPblock a one → text ≡ one ++ two → opening (text ++ rest) ≡ openings.Block
 block_first one two text rest a (f, b, (s, h), q, e) same = rw (same, e, h) refl
 
--- The laws of what holds blocks, from those of blocks.
+-- The laws of commands with blocks, from those of blocks.
 module _ (n : ℕ) (block : BlockReader) (lb : Laws n IsPblock no_kind block) where
   branched_laws : Laws n IsBranched no_kind (branched n block)
   branched_laws =
@@ -233,7 +233,7 @@ module _ (n : ℕ) (block : BlockReader) (lb : Laws n IsPblock no_kind block) wh
   locals openings.While = whiles_laws.local
   locals openings.Other = local_refuse
 
-  -- Which command begins with the token that begins its text.
+  -- The first token of a text determines the command.
   opening_of : (x : CommandTree) (text rest : List Token) → IsCommand x text → (o : Opening) × (opening (text ++ rest) ≡ o) × (opens o ≡ true) × (length (text ++ rest) < n → command_by n block o (text ++ rest) ≡ Got x rest)
   opening_of (CommandTree.skip p) text rest (h, place) =
       let (s, back, inner, e) = led _ (kinds.Word (codes "skip")) text rest h in
@@ -278,7 +278,7 @@ commands_each (BlockTree.next x b) text (one, two, h, others, e) =
     let (xs, same, q) = commands_each b two others in
     (x ∷ xs, ap (λ z. BlockTree.next x z) same, (one, two, h, q, e))
 
--- The kinds that go on with commands.
+-- The kinds that continue commands.
 abbrev pub on_commands : TokenKind → Bool
 on_commands = either no_kind is_opening
 

@@ -1,4 +1,4 @@
--- The statements that commands become are spelled again by tokens that bytes can have.
+-- The statements of commands are spelled again by printable tokens.
 use Rattle.heyvl_print.specs.Printable.{ArePrintable, IsPrintable}
 use Rattle.heyvl_print.specs.WithoutPlaces.{bare_block, bare_statement, no_place}
 use Rattle.heyvl_places.specs.declared.spans.Span.{Span}
@@ -26,7 +26,6 @@ StatementAgain s = Again bare_statement IsStmt s
 abbrev BlockAgain : Block → Type 0
 BlockAgain b = Again bare_block IsStmts b
 
--- Each of these statements.
 abbrev pub AllAgain : List Statement → Type 0
 AllAgain [] = Unit {0}
 AllAgain (x ∷ xs) = Again bare_statement IsStmt x × AllAgain xs
@@ -110,7 +109,7 @@ loop_again g i a s r x y z =
       tokens = record { text = t.text; is = (t.is, refl); printable = t.printable };
     }
 
--- An expression in parentheses, and one before ';' or ']'.
+-- An expression in parentheses, and one before `;` or `]`.
 enclosed_again : (e : Expression) (ts : List Token) → IsEnclosed e ts → ArePrintable ts → ExprAgain e 9
 enclosed_again e ts h p =
     let rest = back_of (IsMark marks.ParenLeft) (IsFull e then IsMark marks.ParenRight) ts h p in

@@ -1,4 +1,5 @@
--- What begins a text of the grammar, and holds no quantifier, goes on to a text of the grammar without one.
+-- If the beginning of a text of the grammar has no quantifier, it can be completed to a text of the
+-- grammar without one.
 use Rattle.heyvl_places.specs.declared.spans.Span.{Span}
 use Rattle.heyvl_syntax.specs.Expressions.{Expression}
 use Rattle.heyvl_syntax.specs.Grammar.{IsBraced, IsExpr, operator, prefix, quantifier_key, ranks, truth_key}
@@ -30,7 +31,7 @@ count_cons t ts = sum_by-cons mark_of t ts
 count_one : (kind : TokenKind) (s : Span) → is_quantifier kind ≡ false → quantifier_count (at kind s ∷ []) ≡ 0
 count_one kind s e = count_cons (at kind s) [] ∙ rw e refl
 
--- Two ways to cut a list: where the one front is the shorter, and where the other is.
+-- Two ways to cut a list, by which of the two first parts is shorter.
 parted : (us vs text more : List Token) → us ++ vs ≡ text ++ more →
     ((t : List Token) × (text ≡ us ++ t) × (vs ≡ t ++ more)) ⊎ ((t : List Token) × (us ≡ text ++ t) × (more ≡ t ++ vs))
 parted [] vs text more e = inl (text, refl, e)
@@ -45,7 +46,8 @@ parted (u ∷ us) vs (t ∷ text) more e =
     go head (inl (w, a, b)) = inl (w, rw (head, a) refl, b)
     go head (inr (w, a, b)) = inr (w, rw (head, a) refl, b)
 
--- Texts of P are spelled by things of A, and so is each front of one that holds no quantifier, with a rest that holds none.
+-- `Goes P Q`: things of `A` spell the texts of `P`. The beginning of such a text, if it has no
+-- quantifier, can be completed without one to a text that a thing of `A` spells.
 pub record Goes {A : Type 0} (P : List Token → Type 0) (Q : A → List Token → Type 0) : Type 0 where
   pub keeps : (text : List Token) → P text → (x : A) × Q x text
   pub ends : (text more : List Token) → P (text ++ more) → quantifier_count text ≡ 0 →
@@ -81,18 +83,18 @@ alike_goes R l f = record {
       (rest, y, k, none);
 }
 
--- With a place, or another fact, that is left out.
+-- Places and other facts are left out.
 from_goes : {A : Type 0} {P P' : List Token → Type 0} {Q : A → List Token → Type 0} → Goes P Q → ((text : List Token) → P' text → P text) → Goes P' Q
 from_goes l f = record { keeps = λ text p. l.keeps text (f text p); ends = λ text more p quiet. l.ends text more (f (text ++ more) p) quiet }
 
--- A thing whose texts hold no quantifier.
+-- A thing whose texts have no quantifier.
 free_goes : {A : Type 0} (Q : A → List Token → Type 0) (x : A) → ((text : List Token) → Q x text → quantifier_count text ≡ 0) → Goes (Q x) Q
 free_goes Q x free = record {
   keeps = λ text h. (x, h);
   ends = λ text more h quiet. (more, x, h, omega (arith, free (text ++ more) h, count_append text more));
 }
 
--- A part whose texts hold no quantifier, and which is kept.
+-- A part of the text that is kept, and has no quantifier.
 fixed_goes : (P : List Token → Type 0) → ((text : List Token) → P text → quantifier_count text ≡ 0) → Goes P (λ (u : Unit {0}). P)
 fixed_goes P free = record {
   keeps = λ text h. (tt, h);
@@ -114,7 +116,7 @@ lead_goes kind e l = after_goes (IsOne kind) (one_free kind e) l
 trail_goes : {A : Type 0} (kind : TokenKind) → is_quantifier kind ≡ false → {P : List Token → Type 0} {Q : A → List Token → Type 0} → Goes P Q → Goes (P then IsOne kind) (λ x. Q x then IsOne kind)
 trail_goes kind e {P} {Q} l = alike_goes (λ x. Q x then IsOne kind) (both_goes l (fixed_goes (IsOne kind) (one_free kind e))) (λ p text h. (p.0, h))
 
--- What has a place, made anew of its parts.
+-- A thing with a place, built from its parts.
 placed_goes : {A B : Type 0} {P : List Token → Type 0} {Q : A → List Token → Type 0} (s : Span) (R : B → List Token → Type 0) →
     Goes P Q → ((x : A) (text : List Token) → Q x text → (y : B) × R y text) → Goes (λ text. P text × (s ≡ extent text)) R
 placed_goes s R l f = from_goes (alike_goes R l f) (λ text h. h.0)
@@ -172,7 +174,7 @@ expr_goes (Expression.choice a b c s) k =
     (λ p text h. (Expression.choice p.0 p.1.0 p.1.1 (extent text), (h, refl)))
 expr_goes (Expression.bound up x t a s) k = record { keeps = λ text h. (Expression.bound up x t a s, h); ends = ends }
   where
-    -- A front with something in it begins with the quantifier.
+    -- A beginning of at least one token begins with the quantifier.
     ends : (text more : List Token) → IsExpr (Expression.bound up x t a s) k (text ++ more) → quantifier_count text ≡ 0 →
         (rest : List Token) × (y : Expression) × Ranked k y (text ++ rest) × (quantifier_count rest ≡ 0)
     ends [] more h quiet = (at (kinds.Key keys.Infty) nowhere ∷ [], Expression.infinity nowhere, ((nowhere, refl), refl), refl)

@@ -1,4 +1,4 @@
--- Expressions of a program are spelled again as they were; those over its inputs with the names of these.
+-- Expressions of a program are spelled again, and so are those over its inputs.
 use Rattle.heyvl_print.specs.Printable.{ArePrintable, IsPrintable}
 use Rattle.heyvl_print.specs.WithoutPlaces.{bare_expression, no_place}
 use Rattle.heyvl_syntax.specs.Expressions.{Expression}
@@ -19,11 +19,11 @@ use Rattle.std.proofs.Common.{List, [], ap, refl, ◌∷◌, ◌≡◌, ℕ}
 abbrev pub ExprAgain : Expression → ℕ → Type 0
 ExprAgain e k = Again bare_expression (λ y. IsExpr y k) e
 
--- An expression that is spelled already.
+-- An expression that is already spelled.
 pub kept : (e : Expression) (k : ℕ) (ts : List Token) → IsExpr e k ts → ArePrintable ts → ExprAgain e k
 kept e k ts h p = record { item = e; same = refl; tokens = record { text = ts; is = h; printable = p } }
 
--- `(a)`, and so on, from its parts.
+-- Groups and the other kinds of expressions, from their parts.
 pub group_again : (a : Expression) (s : Span) (k : ℕ) → ExprAgain a 9 → ExprAgain (Expression.group a s) k
 group_again a s k h =
     let t = mark marks.ParenLeft next h.tokens next mark marks.ParenRight in
@@ -57,7 +57,7 @@ two_same op a x b y e f = cc
 three_same : (a x b y c z : Expression) → a ≡ x → b ≡ y → c ≡ z → Expression.choice a b c no_place ≡ Expression.choice x y z no_place
 three_same a x b y c z e f g = cc
 
--- The expression over the inputs.
+-- An expression over the inputs.
 pub started : (e : Expression) (k : ℕ) (ts : List Token) → IsExpr e k ts → ArePrintable ts → ExprAgain (at_start e) k
 started (Expression.number n s) k ts h p = kept (Expression.number n s) k ts h p
 started (Expression.truth b s) k ts h p = kept (Expression.truth b s) k ts h p

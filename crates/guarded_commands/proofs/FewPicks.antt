@@ -1,4 +1,4 @@
--- A program has no more probabilistic choices than tokens: each has a `[`.
+-- A program has at most as many probabilistic choices as tokens, since each has a `[`.
 use Rattle.guarded_commands.specs.Grammar.{IsCommand, IsCommands, IsProgram}
 use Rattle.guarded_commands.specs.Programs.{BlockTree, CommandTree, ProgramTree}
 use Rattle.guarded_commands.specs.Translation.{picks, picks_in}
@@ -9,7 +9,7 @@ use Rattle.heyvl_syntax.specs.declared.marks.Mark.{Mark}
 use Rattle.heyvl_syntax.specs.declared.tokens.Token.{Token}
 use Rattle.std.proofs.Common.{List, ap, arith, length, length-append, ◌+◌, ◌++◌, ◌≡◌, ◌≤◌, ℕ}
 
--- The production has so many tokens or more.
+-- Each text of `P` has at least `n` tokens.
 record Counts (n : ℕ) (P : List Token → Type 0) : Type 0 where
   few : (ts : List Token) → P ts → n ≤ length ts
 

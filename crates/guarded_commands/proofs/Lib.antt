@@ -3,6 +3,7 @@ mod CommandLaws
 mod CommandsAgain
 mod Endings
 mod ExpressionsAgain
+mod FaultExamples
 mod FewPicks
 mod MadeWords
 mod PlainCommandsAre

@@ -1,4 +1,4 @@
--- The words that the translation makes are words that bytes can have.
+-- The names that the translation introduces are printable identifiers.
 use Rattle.heyvl_print.specs.Printable.{IsPrintable}
 use Rattle.heyvl_syntax.specs.Bytes.{is_letter, is_word_byte}
 use Rattle.heyvl_syntax.specs.Keys.{key_text}
@@ -14,7 +14,7 @@ use Rattle.std.specs.Cmp.Lexicographic.{pointwise}
 use Rattle.std.specs.Fmt.{decimal, digit_glyph, digits, digits_onto}
 use Rattle.std.specs.List.{list_all, starts_with}
 
--- No key begins as these words do.
+-- No keyword begins with `init_` or `pick_`.
 init_no_key : (key : Key) → starts_with nat_eq (key_text key) (codes "init_") ≡ false
 init_no_key keys.Proc = refl
 init_no_key _ = refl
@@ -23,7 +23,7 @@ pick_no_key : (key : Key) → starts_with nat_eq (key_text key) (codes "pick_") 
 pick_no_key keys.Proc = refl
 pick_no_key _ = refl
 
--- Nor is one of these words a key.
+-- `main` is not a keyword.
 main_no_key : (key : Key) → pointwise nat_eq (key_text key) (codes "main") ≡ false
 main_no_key keys.Proc = refl
 main_no_key _ = refl
@@ -51,7 +51,7 @@ all_word_bytes (b ∷ bs) h = rw (letter_is_word_byte b h.0) h.1
 pub input_printable : (x : List ℕ) → IsWord x → IsPrintable (kinds.Word (input_name x))
 input_printable x h = ((refl, all_word_bytes x h), differ (λ w. starts_with nat_eq w (codes "init_")) (input_name x) refl init_no_key)
 
--- Digits are bytes of words.
+-- Digits are bytes of identifiers.
 glyph_is_word_byte : (d : ℕ) → d < 10 → is_word_byte (digit_glyph false d) ≡ true
 glyph_is_word_byte d h = grind (arith, nat_tests)
 

@@ -1,4 +1,4 @@
--- What follows from the first two clauses of the reader of programs: that it gives nothing else.
+-- The other clauses of `parse_program`, from its clauses `found` and `fault`.
 use Rattle.heyvl_parse.proofs.exported.Spellings.{no_spelling_fault, spelling_fault_unique}
 use Rattle.heyvl_parse.proofs.exported.Wholes.{read_unique}
 use Rattle.heyvl_syntax.specs.SourceFaults.{IsLight}

@@ -71,7 +71,7 @@ before_laws n = lead_laws (key_test keys.Pre) (ended_expr_laws n) some_ended
 after_laws : (n : ℕ) → Laws n (λ a. IsKey keys.Post then IsEnded a) no_kind (after n)
 after_laws n = lead_laws (key_test keys.Post) (ended_expr_laws n) some_ended
 
--- Three parts and what follows them, one behind another.
+-- Three parts and what follows them, with the grouping removed.
 opened : (P Q R S : List Token → Type 0) (ts : List Token) → ((P then Q then R) then S) ts → (P then Q then R then S) ts
 opened P Q R S ts (front, back, (one, two, p, (three, four, q, r, e3), e2), s, e1) = (
   one,

@@ -1,4 +1,4 @@
--- Worked rows of the grammar: two small texts, computed. Places are numbers of tokens.
+-- Worked rows of the grammar: two small texts, computed. Places are indices of tokens.
 use Rattle.heyvl_parse.proofs.exported.Wholes.{found_all}
 use Rattle.heyvl_parse.specs.readers.ReadParts.{Bad, Got}
 use Rattle.heyvl_places.specs.declared.spans.Span.{Span}
@@ -53,7 +53,7 @@ go = word (codes "go")
 abbrev pub name : List ℕ → ℕ → Expression
 name x i = Expression.name x (span i (i + 1))
 
--- ite(go, c + 1, c)
+-- `ite(go, c + 1, c)`
 abbrev bound_tokens : List TokenKind
 bound_tokens = key keys.Ite ∷ sign marks.ParenLeft ∷ go ∷ sign marks.Comma ∷ c ∷ sign marks.Plus ∷ number 1 ∷ sign marks.Comma ∷ c ∷ sign marks.ParenRight ∷ []
 
@@ -96,15 +96,15 @@ walk_tree = record {
       (span 21 60)) BlockTree.done;
 }
 
--- It is read so.
+-- It is read as this tree.
 walk_is_read : program 70 walk ≡ Got walk_tree []
 walk_is_read = refl
 
--- And so the grammar spells it.
+-- The grammar spells it.
 walk_is_spelled : IsProgram walk_tree walk
 walk_is_spelled = record { grammar = found_all IsProg program program_laws 70 walk walk_tree walk_is_read; unquantified = refl }
 
--- nat x; pre x; post x; x := ;
+-- `nat x; pre x; post x; x := ;`
 abbrev broken : List Token
 broken = text (
     word (codes "nat") ∷ word (codes "x") ∷ sign marks.Semi ∷ key keys.Pre ∷ word (codes "x") ∷ sign marks.Semi

@@ -1,4 +1,4 @@
--- The coproc that a program becomes is spelled again, and so its canonical text spells it.
+-- The coproc of a program is spelled again, and so its canonical text spells it.
 use Rattle.heyvl_print.specs.Laws.{LexedTokensArePrintable, PrintableFilesSpell, TextIgnoresPlaces}
 use Rattle.heyvl_print.specs.Printable.{ArePrintable, IsPrintable}
 use Rattle.heyvl_print.specs.WithoutPlaces.{SameButPlaces, bare_param, bare_procedure}
@@ -24,7 +24,7 @@ use Rattle.guarded_commands.specs.Translations.{TranslationsSpell}
 use Rattle.guarded_commands.specs.declared.programs.Declaration.{Declaration}
 use Rattle.std.proofs.Common.{List, None, Some, [], ap, codes, map, refl, subst, sym, true, ◌++◌, ◌∙◌, ◌∷◌, ℕ}
 
--- The names of declarations are words that bytes can have.
+-- The names of the declarations are printable.
 abbrev NamesPrintable : List Declaration → Type 0
 NamesPrintable [] = Unit {0}
 NamesPrintable (d ∷ ds) = IsPrintable (kinds.Word d.name) × NamesPrintable ds
@@ -38,7 +38,7 @@ names_printable (d ∷ ds) ts h p =
     let named = front_of (IsName d.name) (IsMark marks.Semi) behind.text behind.is behind.printable in
     (name_printable d.name named.text named.is named.printable, names_printable ds rest.text rest.is rest.printable)
 
--- Parameters of these names.
+-- Parameters with these names.
 abbrev ParamAgain : Param → Type 0
 ParamAgain = Again bare_param IsParam
 
@@ -82,13 +82,13 @@ starts_again [] h = tt
 starts_again (d ∷ ds) h =
     (assign_again d.name (Expression.name (input_name d.name) d.span) d.span h.0 (name_again (input_name d.name) d.span 9 (input_printable d.name h.0.0)), starts_again ds h.1)
 
--- One pre and one post.
+-- One pre clause and one post clause.
 clauses_again : (a b : Expression) → Has (IsFull a) → Has (IsFull b) → Has (IsClauses (a ∷ []) (b ∷ []))
 clauses_again a b h k =
     let t = (key keys.Pre next h) next (key keys.Post next k) next nothing in
     record { text = t.text; is = (Clause.pre a ∷ Clause.post b ∷ [], t.is, refl, refl); printable = t.printable }
 
--- What is asked of the parts of a program.
+-- The conditions on the parts of a program.
 record Parts (p : ProgramTree) : Type 0 where
   names : NamesPrintable p.declarations
   pre : ExprAgain (at_start p.pre) 9

@@ -1,4 +1,5 @@
--- Where the first quantifier stands, nothing goes on; before it, tokens go on as they do with quantifiers allowed.
+-- Nothing goes on at the first quantifier; before it, tokens go on as they do where quantifiers are
+-- allowed.
 use Rattle.heyvl_parse.specs.declared.stops.PartStop.TheVariants.{Fault}
 use Rattle.heyvl_parse.specs.readers.PartStops.{IsPartStop}
 use Rattle.heyvl_syntax.specs.Beginnings.{IsBeginning, IsUnexpected}
@@ -14,7 +15,7 @@ use Rattle.std.proofs.lemmas.List.{append-nil, length-take-le, take-take, take_a
 count_front : (ts : List Token) (i : ℕ) → quantifier_count (take i ts) ≤ quantifier_count ts
 count_front ts i = sum_by-take-le (λ t. cond (is_quantifier t.kind) 1 0) ts i
 
--- The first quantifier has the index k, or there is none and k is the number of tokens.
+-- The first quantifier has the index `k`, or there is none and `k` is the number of tokens.
 pub record IsFirst (ts : List Token) (k : ℕ) : Type 0 where
   pub inside : k ≤ length ts
   pub before : quantifier_count (take k ts) ≡ 0
@@ -27,7 +28,7 @@ module _ (ts : List Token) (k : ℕ) (first : IsFirst ts k) where
   no_beginning : k < length ts → IsBeginning IsProgram (take (k + 1) ts) → ⊥
   no_beginning less b = let one = first.here less in let none = b.spelled.unquantified in absurd (omega (arith, count_append (take (k + 1) ts) b.more))
 
-  -- A program stands before the quantifier.
+  -- The tokens before the quantifier spell a program.
   pub ended_by_quantifier : (x : ProgramTree) → IsProg x (take k ts) → k < length ts → IsUnexpected IsProgram ts k
   ended_by_quantifier x h less = record {
     inside = omega arith;
@@ -40,7 +41,7 @@ module _ (ts : List Token) (k : ℕ) (first : IsFirst ts k) where
     here = λ inside b. no_beginning less b;
   }
 
-  -- No quantifier stands in the tokens.
+  -- The tokens have no quantifier.
   pub without_quantifier : (x : ProgramTree) → IsProg x (take k ts) → length ts ≤ k → IsProgram x ts
   without_quantifier x h all = record {
     grammar = subst (IsProg x) (take_all k ts all) h;
@@ -90,7 +91,8 @@ module _ (ts : List Token) (k : ℕ) (first : IsFirst ts k) where
               (record { whole = b.whole; more = b.more; spelled = b.spelled.grammar }))
           pick (inr (inr more)) = absurd (omega arith)
 
--- The same, as the reader tells it: by what is left from the fault on, behind the quantifier too.
+-- `refused_before` for the reader's answer, which counts the tokens from the error on, also those
+-- after the quantifier.
 pub stop_before : (ts front : List Token) (k left behind : ℕ) → IsFirst ts k → front ≡ take k ts → behind + k ≡ length ts → IsPartStop IsProg front (Fault left) → IsPartStop IsProgram ts (Fault (left + behind))
 stop_before ts front k left behind first e size (a, u) =
     let len : length (take k ts) ≡ k = length-take-le k ts first.inside in

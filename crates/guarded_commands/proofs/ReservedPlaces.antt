@@ -1,15 +1,13 @@
--- Where reserved tokens stand, as far as tokens have been visited.
+-- The indices of reserved tokens, among the tokens visited so far.
 use Rattle.heyvl_syntax.specs.declared.tokens.Token.{Token}
 use Rattle.guarded_commands.specs.ReservedNames.{IsReservedAt, is_reserved}
 use Rattle.std.proofs.Common.{List, ap, arith, drop, false, get_or, inl, inr, length, length-drop, subst, ◌+◌, ◌<◌, ◌∷◌, ◌≡◌, ◌≤◌, ◌⊎◌, ℕ}
 use Rattle.std.proofs.Math.Seq.{drop-cons}
 use Rattle.std.proofs.lemmas.Bool.{cases_lt}
 
--- The token that stands at an index.
 here : (ts : List Token) (i : ℕ) (t u : Token) (more : List Token) → i < length ts → u ≡ get_or ts i u → drop i ts ≡ t ∷ more → u ≡ t
 here ts i t u more inside is stands = let front = drop-cons ts i u inside in cc
 
--- A token stands inside the list.
 inside_list : (ts : List Token) (i : ℕ) (t : Token) (more : List Token) → drop i ts ≡ t ∷ more → i < length ts
 inside_list ts i t more stands = omega (arith, length-drop i ts, ap length stands)
 

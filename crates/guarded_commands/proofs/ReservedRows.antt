@@ -9,7 +9,7 @@ use Rattle.std.proofs.Common.{Bool, List, [], codes, false, map, refl, true, ◌
 abbrev word : List ℕ → TokenKind
 word w = kinds.Word w
 
--- Words that the translation makes, and words that are near them.
+-- Names that the translation introduces, and similar names.
 abbrev words : List (List ℕ)
 words =
     codes "init_" ∷ codes "init_x" ∷ codes "init_init_" ∷ codes "pick_" ∷ codes "pick_1" ∷ codes "pick_x"
@@ -21,7 +21,7 @@ made_words = refl
 skip_words : map (λ w. is_skip_word (word w)) (codes "skip" ∷ codes "skips" ∷ codes "ski" ∷ codes "Skip" ∷ []) ≡ true ∷ false ∷ false ∷ false ∷ []
 skip_words = refl
 
--- Of nine tokens, the names of two declarations.
+-- Of nine tokens, those that are the names of two declarations.
 declared_places : map (declares 2) (0 ∷ 1 ∷ 2 ∷ 3 ∷ 4 ∷ 5 ∷ 6 ∷ 7 ∷ 8 ∷ []) ≡ false ∷ true ∷ false ∷ false ∷ true ∷ false ∷ false ∷ false ∷ false ∷ []
 declared_places = refl
 
@@ -29,8 +29,8 @@ abbrev reserved_from : ℕ → ℕ → List TokenKind → List Bool
 reserved_from n i [] = []
 reserved_from n i (k ∷ ks) = is_reserved n i k ∷ reserved_from n (i + 1) ks
 
--- nat x; bool skip; pre init_; post skip; skip;
--- The name of the second declaration is reserved, and the word of the pre; `skip` as a command and in an expression isn't.
+-- `nat x; bool skip; pre init_; post skip; skip;`: the name of the second declaration is reserved,
+-- and so is the identifier of the pre. `skip` as a command and in an expression is not.
 text_marks :
     reserved_from 2 0 (
     word (codes "nat") ∷ word (codes "x") ∷ kinds.Mark marks.Semi ∷ word (codes "bool") ∷ word (codes "skip") ∷ kinds.Mark marks.Semi

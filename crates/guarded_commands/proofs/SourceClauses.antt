@@ -1,4 +1,4 @@
--- Bytes are translated to one file, or have one first fault.
+-- Bytes are translated to one file, or have one first error.
 use Rattle.heyvl_syntax.specs.SourceFaults.{token_place}
 use Rattle.heyvl_syntax.specs.TokenLaws.{FaultsAreUnique, TokensAreUnique, TokensExcludeFaults}
 use Rattle.heyvl_syntax.specs.declared.tokens.Token.{Token}

@@ -1,4 +1,4 @@
--- What follows from the first two clauses of the translation: that it gives nothing else.
+-- The other clauses of `translate`, from its clauses `found` and `fault`.
 use Rattle.heyvl_parse.proofs.exported.Spellings.{no_spelling_fault}
 use Rattle.heyvl_places.specs.declared.spans.Span.{Span}
 use Rattle.heyvl_syntax.specs.Procedures.{Procedure, procedures}
@@ -18,7 +18,6 @@ use Rattle.guarded_commands.specs.declared.stops.PgclStop.{PgclStop}
 use Rattle.std.proofs.Common.{Err, IfErr, IfOk, List, MatchResult, Ok, Result, [], ap, arith, length, subst, sym, ◌<◌, ◌∙◌, ◌∷◌, ◌≡◌, ◌≤◌, ◌⊎◌, ℕ, inl, inr, refl}
 use Rattle.std.proofs.lemmas.Bool.{cases_lt}
 
--- The first reserved token has one index.
 first_unique : (n : ℕ) (ts : List Token) (i j : ℕ) → IsFirstReserved n ts i → IsFirstReserved n ts j → i ≡ j
 first_unique n ts i j h k = pick (cases_lt i j) (cases_lt j i)
   where

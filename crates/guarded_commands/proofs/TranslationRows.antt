@@ -62,7 +62,7 @@ walk_is_translated : translated (first_place walk) walk_tree ≡ walk_file
 unfolding digits
 walk_is_translated = refl
 
--- { { skip; } [1] { skip; } } [1] { skip; }  { skip; } [1] { skip; }
+-- The program `{ { skip; } [1] { skip; } } [1] { skip; }  { skip; } [1] { skip; }`.
 abbrev one : Expression
 one = Expression.number (digit 1) (span 0 1)
 
@@ -75,7 +75,7 @@ mixed a b = CommandTree.mix one a b (span 0 1)
 abbrev nested : BlockTree
 nested = BlockTree.next (mixed (BlockTree.next (mixed skips skips) BlockTree.done) skips) (BlockTree.next (mixed skips skips) BlockTree.done)
 
--- The names of the choices in the order in which their first tokens stand.
+-- The names of the choices, in the order of their first tokens.
 abbrev declared_in : Block → List (List ℕ)
 declared_in Block.done = []
 declared_in (Block.next (Statement.var x t r s) more) = x ∷ declared_in more
@@ -92,7 +92,7 @@ third _ = []
 three_choices : picks_in nested ≡ 3
 three_choices = refl
 
--- The outer one is the first, the one inside it the second, and the one behind them the third.
+-- The outer choice is the first, the one inside it the second, and the one after both the third.
 inner_is_second : declared_in (first_inside (statements 1 nested)) ≡ codes "pick_2" ∷ []
 unfolding digits
 inner_is_second = refl

@@ -3,6 +3,5 @@ use Rattle.guarded_commands.proofs.starts.starts.Given as goal
 use Rattle.guarded_commands.specs.Translation.{start}
 use Rattle.std.proofs.Common.{map, take, ◌≡◌}
 
--- What has been made is what comes of the declarations that have been visited.
 abbrev pub invariant-loop-one : goal.invariant-loop-one
 invariant-loop-one l = map statement l.made.items ≡ map start (take l.one-index l.declarations)
