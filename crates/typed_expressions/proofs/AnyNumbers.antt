@@ -1,4 +1,4 @@
--- What is found against an expression rests on the names and the types of variables, and not on their numbers.
+-- The findings in an expression depend on the names and types of variables, not on their numbers.
 use Rattle.heylo_formula.specs.Formula.{Cond, Form}
 use Rattle.heylo_formula.specs.Typing.NumberType.{eureal, int, uint, ureal}
 use Rattle.heylo_formula.specs.Typing.{NumberType, is_unsigned, join}
@@ -29,7 +29,7 @@ use Rattle.typed_expressions.specs.declared.stops.ResolveStop.{ResolveStop}
 
 -- ---- Types
 
--- A meaning with its type alone: the form is one for all.
+-- An elaborated expression reduced to its type: the same formula for all of one type.
 abbrev kind : Meaning → Meaning
 kind (Meaning.truth g) = Meaning.truth (Cond.constant true)
 kind (Meaning.number t a) = Meaning.number t (Form.number infinite)
@@ -231,7 +231,7 @@ quantified_kinds up n m t x y e = quantified_kind up n m (declarable t) x ∙ ap
 
 -- ---- Scopes
 
--- Scopes of the same names and types.
+-- Scopes with the same names and types.
 abbrev Alike : Scope → Scope → Type 0
 Alike [] [] = Unit {0}
 Alike [] (f ∷ fs) = ⊥
@@ -273,7 +273,7 @@ found_alike x (e ∷ es) (f ∷ fs) h = go (bytes_eq x e.0) (bytes_eq x f.0) (ap
     go false true i r = absurd (cc)
     go false false i r = r
 
--- ---- What expressions become
+-- ---- Elaborated expressions
 
 named_kinds : (o p : Option Local) → types o ≡ types p → kinds (option_map variable o) ≡ kinds (option_map variable p)
 named_kinds None None e = refl
@@ -301,7 +301,7 @@ elaborate_kinds (Expression.bound up x t a s) n m sc tc h =
     given_kinds (elaborate (suc n) (shown x n t sc) a) (elaborate (suc m) (shown x m t tc) a) (quantified up n t) (quantified up m t)
     (elaborate_kinds a (suc n) (suc m) (shown x n t sc) (shown x m t tc) (alike_inside x n m t sc tc h)) (λ y z i. quantified_kinds up n m t y z i)
 
--- ---- What is found
+-- ---- Findings
 
 meets_kind : (d : Demand) (x : Meaning) → meets d x ≡ meets d (kind x)
 meets_kind Demand.Any x = refl
@@ -385,7 +385,8 @@ found_alike_in (Expression.choice a b c s) f d n m sc tc h =
 found_alike_in (Expression.bound up x t a s) f d n m sc tc h =
     both _ _ _ _ (found_alike_in a f Demand.Any (suc n) (suc m) (shown x n t sc) (shown x m t tc) (alike_inside x n m t sc tc h)) (own_alike n m sc tc h f d (Expression.bound up x t a s))
 
--- A quantifier where none may stand, whose body is read as if its variable's number were the next one again.
+-- The findings in a quantifier at a place where none may occur. Its body is read with the next
+-- number again, which changes nothing.
 pub closed_bound : (d : Demand) (n : ℕ) (sc : Scope) (up : Bool) (x : List ℕ) (t : TypeName) (a : Expression) (s : Span)
     → findings Front.Closed d n sc (Expression.bound up x t a s)
     ≡ findings Front.Closed Demand.Any n (shown x n t sc) a ++ at s ((11, is_visible sc x) ∷ (12, lacks d (given (elaborate n (shown x n t sc) a) (quantified up n t))) ∷ (23, true) ∷ [])
@@ -399,7 +400,7 @@ closed_bound d n sc up x t a s =
     (at s ((11, is_visible sc x) ∷ (12, lacks d (given (elaborate n inside a) (quantified up n t))) ∷ (23, true) ∷ [])) found
     (ap (λ b. at s ((11, is_visible sc x) ∷ (12, b) ∷ (23, true) ∷ [])) lacking)
 
--- ---- What is read of such a quantifier
+-- ---- The answers on such a quantifier
 
 pub bound_stops : (e : ResolveStop) (d : Demand) (n : ℕ) (sc tc : Scope) (up : Bool) (x : List ℕ) (t : TypeName) (a : Expression) (s : Span) (q r : Option Meaning) → tc ≡ shown x n t sc
     → Gives read (Err e) (findings Front.Closed Demand.Any n tc a) q → Gives read (Err e) (findings Front.Closed d n sc (Expression.bound up x t a s)) r

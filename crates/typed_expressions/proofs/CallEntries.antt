@@ -1,4 +1,4 @@
--- The procedures that calls can name as the tables of names that hold them.
+-- The callable procedures, as entries of a table of names.
 use Rattle.typed_expressions.specs.Signatures.{Called, Signature, find_call, with_signature}
 use Rattle.typed_expressions.specs.Views.{called_of, signature_of}
 use Rattle.typed_expressions.specs.declared.calls.Signature as held
@@ -30,7 +30,7 @@ find_entries x (e ∷ es) = go (bytes_eq x e.0.items) (find_entries x es)
     go true h = refl
     go false h = h
 
--- A procedure whose name is new stands last.
+-- A procedure with a new name is inserted at the end.
 pub insert_entries : (k : Bytes) (s : held.Signature) (es : List (Bytes × held.Signature)) → is_none (find_call (called_of es) k.items) ≡ true → called_of (insert_entry same es k s) ≡ with_signature k.items (signature_of s) (called_of es)
 insert_entries k s [] h = refl
 insert_entries k s (e ∷ es) h = go (same k e.0) (insert_entries k s es) h
@@ -39,7 +39,7 @@ insert_entries k s (e ∷ es) h = go (same k e.0) (insert_entries k s es) h
     go true r h = absurd (cc)
     go false r h = ap (λ l. (e.0.items, signature_of e.1) ∷ l) (r h)
 
--- One whose name isn't new changes nothing.
+-- A procedure whose name is not new changes nothing.
 pub kept : (x : List ℕ) (p : Signature) (c : Called) → is_none (find_call c x) ≡ false → with_signature x p c ≡ c
 kept x p [] h = absurd (cc)
 kept x p (e ∷ es) h = go (bytes_eq x e.0) (kept x p es) h
@@ -62,7 +62,7 @@ none_is None false e = absurd (cc)
 none_is (Some x) true e = absurd (cc)
 none_is (Some x) false e = refl
 
--- Whether a procedure is found, as the code tests it.
+-- Whether a procedure is found, as the program tests it.
 pub found : (r : Option (Bor held.Signature)) (o : Option Signature) (b c : Bool) → option_map (λ f. signature_of f.now) r ≡ o → is_some r ≡ not b → b ≡ c → is_none o ≡ c
 found r o b c e f g = ap is_none (sym e) ∙ is_none_map (λ (f : Bor held.Signature). signature_of f.now) r ∙ none_is r b f ∙ g
 

@@ -1,6 +1,7 @@
--- The table of expressions: for each kind of expression the condition on its parts, its type, and the form that it becomes. Where
--- the condition fails it becomes nothing. Source: the types of HeyLo's expressions (Schroeer, Batz, Kaminski, Katoen, Matheja,
--- OOPSLA 2023), in this project's profile.
+-- The table of expressions: for each kind of expression the condition on its parts, its type, and
+-- the formula or condition that it is elaborated to; nothing if the condition fails. Source: the
+-- types of HeyLo's expressions (Schroeer, Batz, Kaminski, Katoen, Matheja, OOPSLA 2023), in this
+-- project's profile.
 use Rattle.heylo_formula.specs.Formula.{Cond, Form}
 use Rattle.heylo_formula.specs.Typing.NumberType.{eureal, int, uint, ureal}
 use Rattle.heylo_formula.specs.Typing.{NumberType, is_unsigned, join}
@@ -13,24 +14,26 @@ use Rattle.heyvl_syntax.specs.declared.literals.Lit.{Lit}
 use Rattle.heyvl_syntax.specs.declared.operators.BinaryOp.{BinaryOp}
 use Rattle.heyvl_syntax.specs.declared.operators.UnaryOp.{UnaryOp}
 use Rattle.heyvl_syntax.specs.declared.types.TypeName.{TypeName}
-use Rattle.std.specs.Prelude.{Bool, None, Option, Some, false, if◌then◌else◌, not, option_map, true, ◌&&◌, ◌==◌, ℕ}
-use Rattle.typed_expressions.specs.LiteralValues.{inverse_value, is_written, is_zero_literal, literal_value}
+use Rattle.std.specs.Prelude.{Bool, None, Option, Some, false, if◌then◌else◌, not, option_map, true}
+use Rattle.std.specs.Prelude.{◌&&◌, ◌==◌, ℕ}
+use Rattle.typed_expressions.specs.LiteralValues.{inverse_value, is_written, is_zero_literal}
+use Rattle.typed_expressions.specs.LiteralValues.{literal_value}
 use Rattle.typed_expressions.specs.declared.demands.Demand.{Demand}
 use Rattle.typed_expressions.specs.declared.scopes.Local.{Local}
 
--- What an expression becomes: a condition, which is of type Bool; a form with its type; or a variable of type Real, which has no
--- join with any type.
+-- An elaborated expression, whose variables have numbers: a condition, which is of type `Bool`; a
+-- formula with its type; or a variable of type `Real`, which has no common type with any other.
 pub data Meaning : Type 0 where
   truth : Cond → Meaning
   number : NumberType → Form → Meaning
   real : Meaning
 
--- What a function makes of what is there; nothing where nothing is there.
+-- Applies `f` to the value of an option; nothing without a value.
 abbrev pub given : {A B : Type 0} → Option A → (A → Option B) → Option B
 given None f = None
 given (Some a) f = f a
 
--- The types that a variable may be declared of.
+-- The type of a variable that is declared with this type name; nothing for `EUReal` and `Real`.
 abbrev pub declarable : TypeName → Option Ty
 declarable TypeName.Bool = Some Ty.Bool
 declarable TypeName.Int = Some Ty.Int
@@ -39,11 +42,14 @@ declarable TypeName.UReal = Some Ty.UReal
 declarable TypeName.EUReal = None
 declarable TypeName.Real = None
 
--- A whole number is a UInt, every other literal a UReal.
+-- A literal: a `UInt` if its value is an integer, such as `2.0`, otherwise a `UReal`; nothing for a
+-- literal that no text can spell.
 abbrev pub literal : Lit → Option Meaning
-literal n = if is_written n then Some (Meaning.number (if (literal_value n).den == 1 then uint else ureal) (Form.number (finite (literal_value n)))) else None
+literal n = if is_written n
+    then Some (Meaning.number (if (literal_value n).den == 1 then uint else ureal)
+    (Form.number (finite (literal_value n)))) else None
 
--- `true`, `false`
+-- `true` and `false`
 abbrev pub constant : Bool → Meaning
 constant b = Meaning.truth (Cond.constant b)
 
@@ -51,7 +57,7 @@ constant b = Meaning.truth (Cond.constant b)
 abbrev pub infinity : Meaning
 infinity = Meaning.number eureal (Form.number infinite)
 
--- A variable of a declared type, by number.
+-- The variable with the number `x` and a declared type.
 abbrev pub variable_of : TypeName → ℕ → Meaning
 variable_of TypeName.Bool x = Meaning.truth (Cond.flag x)
 variable_of TypeName.Int x = Meaning.number int (Form.variable x)
@@ -60,30 +66,30 @@ variable_of TypeName.UReal x = Meaning.number ureal (Form.variable x)
 variable_of TypeName.EUReal x = Meaning.number eureal (Form.variable x)
 variable_of TypeName.Real x = Meaning.real
 
--- What a visible variable's name becomes: the variable of its declared type, by its number.
+-- A visible variable, by its declared type and its number.
 abbrev pub variable : Local → Meaning
 variable l = variable_of l.ty l.number
 
--- `a - b` of two numbers whose types have this join.
+-- `a - b`, for two numbers with this common type.
 abbrev pub minus : NumberType → Form → Form → Option Meaning
 minus int a b = Some (Meaning.number int (Form.difference a b))
 minus uint a b = Some (Meaning.number uint (Form.cut a b))
 minus ureal a b = Some (Meaning.number ureal (Form.cut a b))
 minus eureal a b = None
 
--- A comparison of two numbers whose types have this join.
+-- A comparison of two numbers with this common type.
 abbrev pub comparison : NumberType → Cond → Option Meaning
 comparison int g = Some (Meaning.truth g)
 comparison uint g = Some (Meaning.truth g)
 comparison ureal g = Some (Meaning.truth g)
 comparison eureal g = None
 
--- A form of EUReal, where the condition holds.
+-- A formula of type `EUReal` if the Boolean holds.
 abbrev pub extended : Bool → Form → Option Meaning
 extended true a = Some (Meaning.number eureal a)
 extended false a = None
 
--- The operators whose two operands are numbers with a join, which is handed in.
+-- The operators between two numbers that need a common type, which is `t`.
 abbrev pub joined_numbers : BinaryOp → Span → Form → Form → NumberType → Option Meaning
 joined_numbers BinaryOp.Plus s a b t = Some (Meaning.number t (Form.sum a b))
 joined_numbers BinaryOp.Star s a b t = Some (Meaning.number t (Form.product a b s))
@@ -104,8 +110,10 @@ joined_numbers BinaryOp.Slash s a b t = None
 
 -- An operator between two numbers.
 abbrev pub numbers : BinaryOp → Span → NumberType → Form → NumberType → Form → Option Meaning
-numbers BinaryOp.Imply s t a u b = extended (is_unsigned (Some t) && is_unsigned (Some u)) (Form.imply a b)
-numbers BinaryOp.CoImply s t a u b = extended (is_unsigned (Some t) && is_unsigned (Some u)) (Form.co_imply a b)
+numbers BinaryOp.Imply s t a u b =
+    extended (is_unsigned (Some t) && is_unsigned (Some u)) (Form.imply a b)
+numbers BinaryOp.CoImply s t a u b =
+    extended (is_unsigned (Some t) && is_unsigned (Some u)) (Form.co_imply a b)
 numbers op s t a u b = given (join t u) (joined_numbers op s a b)
 
 -- An operator between two conditions.
@@ -127,7 +135,7 @@ truths BinaryOp.Minus g h = None
 truths BinaryOp.Star g h = None
 truths BinaryOp.Slash g h = None
 
--- An operator between two operands, but for the division.
+-- An operator other than `/` between two operands.
 abbrev pub binary : BinaryOp → Span → Meaning → Meaning → Option Meaning
 binary op s (Meaning.truth g) (Meaning.truth h) = truths op g h
 binary op s (Meaning.truth g) (Meaning.number u b) = None
@@ -137,21 +145,21 @@ binary op s (Meaning.number t a) (Meaning.number u b) = numbers op s t a u b
 binary op s (Meaning.number t a) Meaning.real = None
 binary op s Meaning.real y = None
 
--- One divided by a literal; nothing for one that is 0.
+-- One divided by a literal; nothing for a literal that is 0 or that no text can spell.
 abbrev pub inverse : Lit → Option Rational
 inverse n = if is_written n && not (is_zero_literal n) then Some (inverse_value n) else None
 
--- One divided by a divisor, which is a number literal that isn't 0; nothing for every other expression.
+-- One divided by a divisor, if this is a number literal other than 0.
 abbrev pub divisor : Expression → Option Rational
 divisor (Expression.number n s) = inverse n
 divisor e = None
 
--- The factor that stands for a division; 0 where the divisor is none.
+-- The factor that replaces a division; 0 without a divisor.
 abbrev pub factor : Option Rational → Rational
 factor (Some q) = q
 factor None = zeroʳ
 
--- `a / n`, which asks for a type of the left part alone.
+-- `a / n` as a multiple by `q`. The condition is on the type of `a` alone.
 abbrev pub quotient : Rational → Meaning → Option Meaning
 quotient q (Meaning.number int a) = None
 quotient q (Meaning.number uint a) = Some (Meaning.number ureal (Form.scale q a))
@@ -160,7 +168,7 @@ quotient q (Meaning.number eureal a) = Some (Meaning.number eureal (Form.scale q
 quotient q (Meaning.truth g) = None
 quotient q Meaning.real = None
 
--- 0
+-- The number 0.
 abbrev pub nought : Form
 nought = Form.number (finite zeroʳ)
 
@@ -181,11 +189,12 @@ negation Meaning.real = None
 
 -- `~a`
 abbrev pub conegation : Meaning → Option Meaning
-conegation (Meaning.number t a) = extended (is_unsigned (Some t)) (Form.co_imply a (Form.number infinite))
+conegation (Meaning.number t a) =
+    extended (is_unsigned (Some t)) (Form.co_imply a (Form.number infinite))
 conegation (Meaning.truth g) = None
 conegation Meaning.real = None
 
--- An operator before its operand.
+-- A prefix operator.
 abbrev pub unary : UnaryOp → Meaning → Option Meaning
 unary UnaryOp.Not m = negation m
 unary UnaryOp.Minus m = negative m
@@ -203,10 +212,11 @@ embedding (Meaning.truth g) = Some (Meaning.number eureal (Form.embed g))
 embedding (Meaning.number t a) = None
 embedding Meaning.real = None
 
--- `ite(a, b, c)` for a condition a.
+-- `ite(a, b, c)`, for a condition `g` in place of `a`.
 abbrev pub selected : Cond → Meaning → Meaning → Option Meaning
 selected g (Meaning.truth h) (Meaning.truth k) = Some (Meaning.truth (Cond.ite g h k))
-selected g (Meaning.number t a) (Meaning.number u b) = option_map (λ j. Meaning.number j (Form.select g a b)) (join t u)
+selected g (Meaning.number t a) (Meaning.number u b) =
+    option_map (λ j. Meaning.number j (Form.select g a b)) (join t u)
 selected g (Meaning.truth h) (Meaning.number u b) = None
 selected g (Meaning.truth h) Meaning.real = None
 selected g (Meaning.number t a) (Meaning.truth k) = None
@@ -225,11 +235,11 @@ bound up n ty (Meaning.number t a) = extended (is_unsigned (Some t)) (Form.bind 
 bound up n ty (Meaning.truth g) = None
 bound up n ty Meaning.real = None
 
--- `sup x: T. a` or `inf x: T. a`, where x has the number n.
+-- `sup x: T. a` or `inf x: T. a`, where `x` has the number `n`.
 abbrev pub quantified : Bool → ℕ → TypeName → Meaning → Option Meaning
 quantified up n t m = given (declarable t) (λ ty. bound up n ty m)
 
--- Whether an expression has a type that is asked for where it stands.
+-- Whether an elaborated expression has a type that is demanded.
 abbrev pub meets : Demand → Meaning → Bool
 meets Demand.Any m = true
 meets Demand.Truth (Meaning.truth g) = true

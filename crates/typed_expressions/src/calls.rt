@@ -1,8 +1,9 @@
-//! What a call sees of the procedures of a file.
+//! The procedures of a file as calls see them.
 
 ghost use Rattle.heyvl_syntax.specs.Procedures.{procedure};
 ghost use Rattle.std.specs.Prelude.{◌<◌, ◌^◌, ◌≡◌, [], IfOk, OnOk, length, map, option_map};
-ghost use Rattle.typed_expressions.specs.Signatures.{Called, called, find_call, signature, with_signature};
+ghost use Rattle.typed_expressions.specs.Signatures.{Called, called, find_call, signature};
+ghost use Rattle.typed_expressions.specs.Signatures.{with_signature};
 ghost use Rattle.typed_expressions.specs.Views.{called_of, signature_of};
 
 use crate::quantifiers::any_quantified;
@@ -22,12 +23,12 @@ pub struct Signature {
     pub inputs: Vec<TypeName>,
     /// The declared types of its outputs.
     pub outputs: Vec<TypeName>,
-    /// Whether a quantifier stands in a post clause.
+    /// Whether one of its post clauses has a quantifier.
     pub quantified: bool,
 }
 
 impl Signature {
-    /// What a call sees of the procedure with this number.
+    /// Returns the signature of a procedure with this number.
     fn new(alloc: Global, number: u32, proc: &Proc) -> Result<Signature, AllocError>
         ensures { IfOk result (λ made. signature_of made ≡ signature number (procedure proc.now)) }
     {
@@ -42,7 +43,7 @@ impl Signature {
     }
 }
 
-/// The procedures that calls can name, by the bytes of their names, in the order of the text.
+/// The callable procedures by the bytes of their names, in the order of the text.
 #[derive(Drop)]
 pub struct Calls {
     entries: IndexMap<Vec<u8>, Signature>,
@@ -55,7 +56,7 @@ impl Model for Calls {
 }
 
 impl Calls {
-    /// No procedures.
+    /// Returns a table without procedures.
     fn new(alloc: Global) -> Calls
         ensures { result ≡ [] }
     {
@@ -64,16 +65,18 @@ impl Calls {
         }
     }
 
-    /// The procedure that a name calls.
+    /// Returns the procedure with this name, if there is one.
     pub fn find(&self, name: &Name) -> Option<&Signature>
-        ensures { option_map (λ found. signature_of found.now) result ≡ find_call self.now name.now }
+        ensures { option_map (λ found. signature_of found.now) result
+            ≡ find_call self.now name.now }
     {
         self.entries.get(name.as_bytes())
     }
 
-    /// One more procedure, unless there is one of its name.
+    /// Adds a procedure, unless there is one with its name.
     fn declare(&mut self, alloc: Global, number: u32, proc: &Proc) -> Result<(), AllocError>
-        ensures { OnOk result (self.new ≡ with_signature proc.now.name (signature number (procedure proc.now)) self.old) }
+        ensures { OnOk result (self.new
+            ≡ with_signature proc.now.name (signature number (procedure proc.now)) self.old) }
     {
         if self.find(&proc.name).is_none() {
             let bytes = Vec::from_slice(alloc, proc.name.as_bytes())?;
@@ -84,7 +87,7 @@ impl Calls {
     }
 }
 
-/// The declared types of parameters.
+/// Returns the declared types of parameters.
 fn types(alloc: Global, params: &[Param]) -> Result<Vec<TypeName>, AllocError>
     ensures { IfOk result (λ all. all.items ≡ map (λ param. param.ty) params.now) }
 {
@@ -95,7 +98,7 @@ fn types(alloc: Global, params: &[Param]) -> Result<Vec<TypeName>, AllocError>
     Ok(all)
 }
 
-/// The procedures of a file: of those with one name the first.
+/// Returns the callable procedures of a file: the first of those with one name.
 pub fn calls_of(alloc: Global, procs: &Vec<Proc>) -> Result<Calls, AllocError>
     requires { length procs.now.items < 2 ^ 31 }
     ensures { IfOk result (λ calls. calls ≡ called (map procedure procs.now.items)) }

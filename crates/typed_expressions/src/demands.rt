@@ -1,6 +1,6 @@
-//! What is asked of an expression where it stands.
+//! The demands of a place on its expression.
 
-/// Which type an expression may have.
+/// The types that an expression may have.
 #[derive(Clone, Copy, Debug, PartialEq, Eq)]
 pub enum Demand {
     /// Any type.
@@ -11,13 +11,13 @@ pub enum Demand {
     Formula,
 }
 
-/// Which quantifier may stand at an expression's place.
+/// The quantifiers that may occur at the place of an expression.
 #[derive(Clone, Copy, Debug, PartialEq, Eq)]
 pub enum Front {
     /// None.
     Closed,
-    /// A `sup`: this is in the front of a post clause of a coproc.
+    /// `sup`, which may lead a post clause of a coproc.
     Sup,
-    /// An `inf`: this is in the front of a post clause of a proc.
+    /// `inf`, which may lead a post clause of a proc.
     Inf,
 }

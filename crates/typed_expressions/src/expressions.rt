@@ -1,15 +1,18 @@
-//! Expressions.
+//! The elaboration of expressions, and the first error in them.
 
 ghost use Rattle.heyvl_syntax.specs.Expressions.{expression, Expression};
 ghost use Rattle.typed_expressions.specs.Answers.{Gives};
 ghost use Rattle.typed_expressions.specs.Views.{meaning_of, read};
 ghost use Rattle.typed_expressions.specs.Findings.{at};
 ghost use Rattle.typed_expressions.specs.Scopes.{with_local};
-ghost use Rattle.typed_expressions.specs.Table.{binary, bracket, choice, embedding, factor, meets, quantified, quotient, unary};
-ghost use Rattle.typed_expressions.specs.TypedExpressions.{allows, closed_findings, divides_by, elaborate, findings, lacks, operated};
+ghost use Rattle.typed_expressions.specs.Table.{binary, bracket, choice, embedding, factor, meets};
+ghost use Rattle.typed_expressions.specs.Table.{quantified, quotient, unary};
+ghost use Rattle.typed_expressions.specs.TypedExpressions.{allows, closed_findings, divides_by};
+ghost use Rattle.typed_expressions.specs.TypedExpressions.{elaborate, findings, lacks, operated};
 ghost use Rattle.std.specs.Option.{is_none};
 ghost use Rattle.typed_expressions.specs.DeclaredVariables.{front_variables};
-ghost use Rattle.std.specs.Prelude.{◌+◌, ◌<◌, ◌^◌, ◌≡◌, ◌∷◌, [], IfOk, OnOk, length, not, option_map, suc, true};
+ghost use Rattle.std.specs.Prelude.{◌+◌, ◌<◌, ◌^◌, ◌≡◌, ◌∷◌, [], IfOk, OnOk, length, not};
+ghost use Rattle.std.specs.Prelude.{option_map, suc, true};
 
 use crate::demands::{Demand, Front};
 use crate::literals::divisor;
@@ -25,7 +28,7 @@ use heyvl_places::{Name, Span};
 use heyvl_syntax::{BinaryOp, Expr, TypeName, UnaryOp};
 use std::alloc::{AllocError, Global};
 
-/// Whether an expression has a type that is asked for.
+/// Returns true if an elaborated expression has a type that is demanded.
 pub fn meets(demand: Demand, made: &Meaning) -> bool
     ensures { result ≡ meets demand (meaning_of made.now) }
 {
@@ -40,9 +43,10 @@ pub fn meets(demand: Demand, made: &Meaning) -> bool
     }
 }
 
-/// What an expression becomes, where that is what is asked; else fault 12 at its place.
+/// Returns the elaborated expression if it has a demanded type, otherwise error 12 at `span`.
 fn judged(made: Option<Meaning>, demand: Demand, span: Span) -> Result<Meaning, ResolveStop>
-    ensures { Gives read result (at span ((12, lacks demand (option_map meaning_of made)) ∷ [])) (option_map meaning_of made) }
+    ensures { Gives read result (at span ((12, lacks demand (option_map meaning_of made)) ∷ []))
+        (option_map meaning_of made) }
 {
     match made {
         None => Err(ResolveStop::Fault(12, span)),
@@ -56,7 +60,7 @@ fn judged(made: Option<Meaning>, demand: Demand, span: Span) -> Result<Meaning, 
     }
 }
 
-/// What a name becomes.
+/// Elaborates a name.
 fn read_name(
     scope: &Scope,
     name: &Name,
@@ -64,7 +68,9 @@ fn read_name(
     next: u32,
     span: Span,
 ) -> Result<Meaning, ResolveStop>
-    ensures { Gives read result (closed_findings demand next scope.now (Expression.name name.now span)) (elaborate next scope.now (Expression.name name.now span)) }
+    ensures { Gives read result
+        (closed_findings demand next scope.now (Expression.name name.now span))
+        (elaborate next scope.now (Expression.name name.now span)) }
 {
     match scope.find(name) {
         None => Err(ResolveStop::Fault(10, span)),
@@ -72,31 +78,33 @@ fn read_name(
     }
 }
 
-/// What brackets about this become.
+/// Elaborates `[..]` around `inner`.
 fn read_bracket(
     alloc: Global,
     inner: Meaning,
     demand: Demand,
     span: Span,
 ) -> Result<Meaning, ResolveStop>
-    ensures { Gives read result (at span ((12, lacks demand (bracket (meaning_of inner))) ∷ [])) (bracket (meaning_of inner)) }
+    ensures { Gives read result (at span ((12, lacks demand (bracket (meaning_of inner))) ∷ []))
+        (bracket (meaning_of inner)) }
 {
     judged(bracket(alloc, inner)?, demand, span)
 }
 
-/// What the embedding of this becomes.
+/// Elaborates `?(..)` around `inner`.
 fn read_embedding(
     alloc: Global,
     inner: Meaning,
     demand: Demand,
     span: Span,
 ) -> Result<Meaning, ResolveStop>
-    ensures { Gives read result (at span ((12, lacks demand (embedding (meaning_of inner))) ∷ [])) (embedding (meaning_of inner)) }
+    ensures { Gives read result (at span ((12, lacks demand (embedding (meaning_of inner))) ∷ []))
+        (embedding (meaning_of inner)) }
 {
     judged(embedding(alloc, inner)?, demand, span)
 }
 
-/// What an operator before this operand becomes.
+/// Elaborates a prefix operator before `inner`.
 fn read_unary(
     alloc: Global,
     op: UnaryOp,
@@ -104,12 +112,13 @@ fn read_unary(
     demand: Demand,
     span: Span,
 ) -> Result<Meaning, ResolveStop>
-    ensures { Gives read result (at span ((12, lacks demand (unary op (meaning_of inner))) ∷ [])) (unary op (meaning_of inner)) }
+    ensures { Gives read result (at span ((12, lacks demand (unary op (meaning_of inner))) ∷ []))
+        (unary op (meaning_of inner)) }
 {
     judged(unary(alloc, op, inner)?, demand, span)
 }
 
-/// The factor that stands for a division; 0 where there is none.
+/// Returns the factor that replaces a division, or 0 without a divisor.
 fn factor(divisor: Option<Frac>) -> Frac
     ensures { result ≡ factor divisor }
 {
@@ -119,7 +128,7 @@ fn factor(divisor: Option<Frac>) -> Frac
     }
 }
 
-/// What a division of this becomes.
+/// Elaborates a division of `left`.
 fn read_division(
     alloc: Global,
     divisor: Option<Frac>,
@@ -127,7 +136,9 @@ fn read_division(
     demand: Demand,
     span: Span,
 ) -> Result<Meaning, ResolveStop>
-    ensures { Gives read result (at span ((12, lacks demand (quotient (factor divisor) (meaning_of left))) ∷ (16, is_none divisor) ∷ [])) (quotient (factor divisor) (meaning_of left)) }
+    ensures { Gives read result
+        (at span ((12, lacks demand (quotient (factor divisor) (meaning_of left)))
+        ∷ (16, is_none divisor) ∷ [])) (quotient (factor divisor) (meaning_of left)) }
 {
     let made = judged(quotient(alloc, factor(divisor), left)?, demand, span)?;
     if divisor.is_none() {
@@ -136,7 +147,7 @@ fn read_division(
     Ok(made)
 }
 
-/// What an operator between these operands becomes, but for the division.
+/// Elaborates an operator other than `/` between two operands.
 fn read_binary(
     alloc: Global,
     op: BinaryOp,
@@ -145,12 +156,14 @@ fn read_binary(
     demand: Demand,
     span: Span,
 ) -> Result<Meaning, ResolveStop>
-    ensures { Gives read result (at span ((12, lacks demand (binary op span (meaning_of left) (meaning_of right))) ∷ [])) (binary op span (meaning_of left) (meaning_of right)) }
+    ensures { Gives read result
+        (at span ((12, lacks demand (binary op span (meaning_of left) (meaning_of right))) ∷ []))
+        (binary op span (meaning_of left) (meaning_of right)) }
 {
     judged(binary(alloc, op, span, left, right)?, demand, span)
 }
 
-/// What an operator between two operands becomes, of which the second stands in the text as this.
+/// Elaborates an operator between two operands; `second` is the expression of the second one.
 fn read_operator(
     alloc: Global,
     op: BinaryOp,
@@ -160,7 +173,14 @@ fn read_operator(
     demand: Demand,
     span: Span,
 ) -> Result<Meaning, ResolveStop>
-    ensures { Gives read result (at span ((12, lacks demand (operated op span (expression second.now) (meaning_of left) (meaning_of right))) ∷ (16, divides_by op (expression second.now)) ∷ [])) (operated op span (expression second.now) (meaning_of left) (meaning_of right)) }
+    ensures { Gives read result
+        (at span ((
+          12,
+          lacks demand
+              (operated op span (expression second.now) (meaning_of left) (meaning_of right)),
+        )
+        ∷ (16, divides_by op (expression second.now)) ∷ []))
+        (operated op span (expression second.now) (meaning_of left) (meaning_of right)) }
 {
     match op {
         BinaryOp::Slash => read_division(alloc, divisor(second), left, demand, span),
@@ -182,7 +202,7 @@ fn read_operator(
     }
 }
 
-/// What a choice between two values becomes.
+/// Elaborates `ite` of three operands.
 fn read_choice(
     alloc: Global,
     test: Meaning,
@@ -191,13 +211,15 @@ fn read_choice(
     demand: Demand,
     span: Span,
 ) -> Result<Meaning, ResolveStop>
-    ensures { Gives read result (at span ((12, lacks demand (choice (meaning_of test) (meaning_of left) (meaning_of right))) ∷ [])) (choice (meaning_of test) (meaning_of left) (meaning_of right)) }
+    ensures { Gives read result
+        (at span ((12, lacks demand (choice (meaning_of test) (meaning_of left) (meaning_of right)))
+        ∷ [])) (choice (meaning_of test) (meaning_of left) (meaning_of right)) }
 {
     judged(choice(alloc, test, left, right)?, demand, span)
 }
 
-/// What a quantifier over this becomes: whether it may stand here, whether it is a `sup`, the number and the type of its
-/// variable.
+/// Elaborates a quantifier over `inner`: `sup` if `up` holds, with the variable `local`. It is an
+/// error unless `allowed` holds.
 fn read_quantifier(
     alloc: Global,
     allowed: bool,
@@ -207,7 +229,9 @@ fn read_quantifier(
     demand: Demand,
     span: Span,
 ) -> Result<Meaning, ResolveStop>
-    ensures { Gives read result (at span ((12, lacks demand (quantified up local.number local.ty (meaning_of inner))) ∷ (23, not allowed) ∷ [])) (quantified up local.number local.ty (meaning_of inner)) }
+    ensures { Gives read result
+        (at span ((12, lacks demand (quantified up local.number local.ty (meaning_of inner)))
+        ∷ (23, not allowed) ∷ [])) (quantified up local.number local.ty (meaning_of inner)) }
 {
     let made = judged(
         quantified(alloc, up, local.number, local.ty, inner)?,
@@ -220,7 +244,8 @@ fn read_quantifier(
     Ok(made)
 }
 
-/// The same of a quantifier whose variable may have the name of a visible one.
+/// Returns the error of a quantifier at a place where none may occur; `twice` says that the name of
+/// its variable is already visible.
 fn read_closed_quantifier(
     alloc: Global,
     twice: bool,
@@ -230,7 +255,10 @@ fn read_closed_quantifier(
     demand: Demand,
     span: Span,
 ) -> Result<Meaning, ResolveStop>
-    ensures { Gives read result (at span ((11, twice) ∷ (12, lacks demand (quantified up local.number local.ty (meaning_of inner))) ∷ (23, true) ∷ [])) (quantified up local.number local.ty (meaning_of inner)) }
+    ensures { Gives read result
+        (at span ((11, twice)
+        ∷ (12, lacks demand (quantified up local.number local.ty (meaning_of inner))) ∷ (23, true)
+        ∷ [])) (quantified up local.number local.ty (meaning_of inner)) }
 {
     if twice {
         return Err(ResolveStop::Fault(11, span));
@@ -238,7 +266,7 @@ fn read_closed_quantifier(
     read_quantifier(alloc, false, up, local, inner, demand, span)
 }
 
-/// Whether a quantifier may stand here.
+/// Returns true if a quantifier may occur at this place; `up` holds for `sup`.
 fn allows(front: Front, up: bool) -> bool
     ensures { result ≡ allows front up }
 {
@@ -249,7 +277,7 @@ fn allows(front: Front, up: bool) -> bool
     }
 }
 
-/// The scope with one more variable.
+/// Returns the scope with one more variable.
 fn inside(alloc: Global, scope: &Scope, name: &Name, local: Local) -> Result<Scope, AllocError>
     ensures { IfOk result (λ inner. inner ≡ with_local name.now local scope.now) }
 {
@@ -258,7 +286,7 @@ fn inside(alloc: Global, scope: &Scope, name: &Name, local: Local) -> Result<Sco
     Ok(inner)
 }
 
-/// The number after this one.
+/// Returns `next + 1`.
 pub fn after(next: u32) -> u32
     requires { next + 1 < 2 ^ 32 }
     ensures { result ≡ suc next }
@@ -266,8 +294,14 @@ pub fn after(next: u32) -> u32
     next + 1
 }
 
-/// What an expression becomes where no quantifier may stand, or the first fault in it. The next variable has this number. A quantifier is a
-/// fault, whatever its number.
+/// Elaborates an expression that has to be without quantifiers.
+///
+/// `next` is the number of the next variable. Only quantifiers use it, and each of them is an error
+/// here.
+///
+/// # Errors
+///
+/// `Fault` with the first static error in the expression, or `Memory`.
 pub fn read(
     alloc: Global,
     scope: &Scope,
@@ -275,7 +309,8 @@ pub fn read(
     e: &Expr,
     demand: Demand,
 ) -> Result<Meaning, ResolveStop>
-    ensures { Gives read result (closed_findings demand next scope.now (expression e.now)) (elaborate next scope.now (expression e.now)) }
+    ensures { Gives read result (closed_findings demand next scope.now (expression e.now))
+        (elaborate next scope.now (expression e.now)) }
 {
     match e {
         Expr::Number(number, span) => judged(literal(*number), demand, *span),
@@ -321,7 +356,12 @@ pub fn read(
     }
 }
 
-/// What an expression becomes in whose front quantifiers may stand, or the first fault in it.
+/// Elaborates an expression that quantifiers may lead, as `front` says. The variable of the first
+/// one has the number `next`.
+///
+/// # Errors
+///
+/// `Fault` with the first static error in the expression, or `Memory`.
 pub fn read_front(
     alloc: Global,
     scope: &mut Scope,
@@ -331,7 +371,8 @@ pub fn read_front(
     demand: Demand,
 ) -> Result<Meaning, ResolveStop>
     requires { next + length (front_variables (expression e.now)) < 2 ^ 32 }
-    ensures gives { Gives read result (findings front demand next scope.old (expression e.now)) (elaborate next scope.old (expression e.now)) }
+    ensures gives { Gives read result (findings front demand next scope.old (expression e.now))
+        (elaborate next scope.old (expression e.now)) }
     ensures kept { OnOk result (scope.new ≡ scope.old) }
 {
     match e {

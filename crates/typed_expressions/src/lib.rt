@@ -1,4 +1,6 @@
-//! Names, scopes and expressions with types: what each expression becomes, what is found against it, and what calls see.
+//! Names, scopes and elaborated expressions: expressions with variables by number and with types,
+//! the errors in them, and the procedures as calls see them. `AllocError` means that memory ran
+//! out.
 #![tactic(auto)]
 
 mod calls;

@@ -6,15 +6,16 @@ ghost use Rattle.typed_expressions.specs.LiteralValues.{is_written, literal_valu
 ghost use Rattle.typed_expressions.specs.Views.{literal_of};
 ghost use Rattle.typed_expressions.specs.Table.{divisor, inverse};
 ghost use Rattle.std.specs.Int.Signed.{le_z};
-ghost use Rattle.std.specs.Prelude.{◌≡◌, ◌^◌, ◌≤◌, None, Some, if◌then◌else◌, pos, true, unsigned_abs};
+ghost use Rattle.std.specs.Prelude.{◌≡◌, ◌^◌, ◌≤◌, None, Some, if◌then◌else◌, pos, true};
+ghost use Rattle.std.specs.Prelude.{unsigned_abs};
 
 use heyvl_num::Frac;
 use heyvl_syntax::{Expr, Lit};
 
-/// The most digits that may stand behind the point.
+/// The largest number of digits after the point.
 const MAX_PLACES: u8 = 38;
 
-/// 10 to the number of places.
+/// Returns 10 to the power of `places`.
 fn power_of_ten(places: u8) -> i128
     requires { places ≤ 38 }
     ensures { result ≡ pos (10 ^ places) }
@@ -22,7 +23,7 @@ fn power_of_ten(places: u8) -> i128
     10_i128.pow(u32::from(places))
 }
 
-/// The fraction of digits and the power of ten below them.
+/// Returns `digits` divided by 10 to the power of `places`.
 fn fraction(digits: i128, places: u8) -> Option<Frac>
     requires natural { le_z (pos 0) digits ≡ true }
     requires short { places ≤ 38 }
@@ -31,7 +32,7 @@ fn fraction(digits: i128, places: u8) -> Option<Frac>
     Frac::new(digits, power_of_ten(places))
 }
 
-/// The fraction of a power of ten and the digits below it.
+/// Returns 10 to the power of `places` divided by `digits`.
 fn inverse_fraction(digits: i128, places: u8) -> Option<Frac>
     requires positive { le_z (pos 1) digits ≡ true }
     requires short { places ≤ 38 }
@@ -40,7 +41,7 @@ fn inverse_fraction(digits: i128, places: u8) -> Option<Frac>
     Frac::new(power_of_ten(places), digits)
 }
 
-/// The number that a literal writes, or None where no text can write it.
+/// Returns the value of a literal, or `None` if no text can spell it.
 pub fn literal_value(number: Lit) -> Option<Frac>
     ensures { result ≡ if is_written number then Some (literal_value number) else None }
 {
@@ -51,7 +52,8 @@ pub fn literal_value(number: Lit) -> Option<Frac>
     }
 }
 
-/// One divided by a number literal, or None for a literal that is 0 and for every other expression.
+/// Returns one divided by a number literal, or `None` for a literal that is 0 and for every other
+/// expression.
 pub(crate) fn divisor(e: &Expr) -> Option<Frac>
     ensures { result ≡ divisor (expression e.now) }
 {
@@ -70,7 +72,7 @@ pub(crate) fn divisor(e: &Expr) -> Option<Frac>
     }
 }
 
-/// The literal that an expression is.
+/// Returns the number literal that an expression is, if it is one.
 pub fn number(e: &Expr) -> Option<Lit>
     ensures { result ≡ literal_of (expression e.now) }
 {
@@ -89,7 +91,7 @@ pub fn number(e: &Expr) -> Option<Lit>
     }
 }
 
-/// One divided by a literal, or None for a literal that is 0 or that no text can write.
+/// Returns one divided by a literal, or `None` for a literal that is 0 or that no text can spell.
 pub fn inverse(number: Lit) -> Option<Frac>
     ensures { result ≡ inverse number }
 {

@@ -1,4 +1,4 @@
-//! What expressions become.
+//! Elaborated expressions.
 
 use heylo_formula::{Cond, Form};
 
@@ -11,13 +11,13 @@ pub enum Kind {
     EUReal,
 }
 
-/// What an expression becomes.
+/// An elaborated expression.
 #[derive(Drop)]
 pub enum Meaning {
-    /// An expression of type Bool.
+    /// A condition, of type Bool.
     Truth(Cond),
-    /// A number, with its type.
+    /// A number with its type.
     Number(Kind, Form),
-    /// A variable of type Real, which has no join with any type.
+    /// A variable of type Real, which has no common type with any other.
     Real,
 }

@@ -9,7 +9,7 @@ ghost use Rattle.typed_expressions.specs.Scopes.{any_input, any_unknown, find, i
 use crate::scopes::Scope;
 use heyvl_places::Name;
 
-/// Whether one of these names isn't visible.
+/// Returns true if one of the names is not visible.
 pub fn any_unknown(scope: &Scope, names: &[Name]) -> bool
     ensures { result ≡ any_unknown scope.now names.now }
 {
@@ -21,7 +21,7 @@ pub fn any_unknown(scope: &Scope, names: &[Name]) -> bool
     false
 }
 
-/// Whether this name stands among these.
+/// Returns true if `names` has `name`.
 fn stands_among(name: &Name, names: &[Name]) -> bool
     ensures { result ≡ list_any (bytes_eq name.now) names.now }
 {
@@ -33,7 +33,7 @@ fn stands_among(name: &Name, names: &[Name]) -> bool
     false
 }
 
-/// Whether a name stands among these twice.
+/// Returns true if a name occurs twice.
 pub fn any_twice(names: &[Name]) -> bool
     ensures { result ≡ any_twice names.now }
 {
@@ -47,7 +47,7 @@ pub fn any_twice(names: &[Name]) -> bool
     false
 }
 
-/// Whether this is the name of an input.
+/// Returns true if `name` is an input; the inputs have the numbers below `inputs`.
 fn is_input(inputs: u32, scope: &Scope, name: &Name) -> bool
     ensures { result ≡ is_input inputs (find scope.now name.now) }
 {
@@ -57,7 +57,7 @@ fn is_input(inputs: u32, scope: &Scope, name: &Name) -> bool
     }
 }
 
-/// Whether one of these names is an input's, of which there are so many.
+/// Returns true if one of the names is an input; the inputs have the numbers below `inputs`.
 pub fn any_input(inputs: u32, scope: &Scope, names: &[Name]) -> bool
     ensures { result ≡ any_input inputs scope.now names.now }
 {

@@ -1,4 +1,5 @@
-//! The table of expressions: what each operator makes of its operands. None stands for operands of other types.
+//! The table of expressions: the elaboration of each operator. `None` means that the types of its
+//! operands are wrong.
 
 ghost use Rattle.heylo_formula.specs.PlainTrees.{cond_of, form_of};
 ghost use Rattle.heylo_formula.specs.Formula.Cond.{ite, not};
@@ -7,7 +8,11 @@ ghost use Rattle.heyvl_num.specs.Value.Value.{infinite};
 ghost use Rattle.heylo_formula.specs.Typing.NumberType.{uint, ureal};
 ghost use Rattle.heylo_formula.specs.Typing.{is_unsigned, join};
 ghost use Rattle.typed_expressions.specs.Views.{meaning_of, kind_of};
-ghost use Rattle.typed_expressions.specs.Table.{binary, bound, bracket, choice, comparison, conegation, constant, declarable, embedding, extended, infinity, joined_numbers, literal, minus, negation, negative, nought, numbers, quantified, quotient, selected, truths, unary, variable};
+ghost use Rattle.typed_expressions.specs.Table.{binary, bound, bracket, choice, comparison};
+ghost use Rattle.typed_expressions.specs.Table.{conegation, constant, declarable, embedding};
+ghost use Rattle.typed_expressions.specs.Table.{extended, infinity, joined_numbers, literal, minus};
+ghost use Rattle.typed_expressions.specs.Table.{negation, negative, nought, numbers, quantified};
+ghost use Rattle.typed_expressions.specs.Table.{quotient, selected, truths, unary, variable};
 ghost use Rattle.std.specs.Prelude.{◌==◌, ◌≡◌, IfOk, Some, if◌then◌else◌, option_map};
 
 use crate::literals::literal_value;
@@ -19,7 +24,7 @@ use heyvl_places::Span;
 use heyvl_syntax::{BinaryOp, Lit, TypeName, UnaryOp};
 use std::alloc::{AllocError, Global};
 
-/// The least type to which both widen.
+/// Returns the common type: the least one to which both widen.
 pub fn joined(a: Kind, b: Kind) -> Option<Kind>
     ensures { option_map kind_of result ≡ join (kind_of a) (kind_of b) }
 {
@@ -38,7 +43,7 @@ pub fn joined(a: Kind, b: Kind) -> Option<Kind>
     }
 }
 
-/// Whether the type is UInt, UReal or EUReal.
+/// Returns true for UInt, UReal and EUReal.
 pub(crate) fn unsigned(kind: Kind) -> bool
     ensures { result ≡ is_unsigned (Some (kind_of kind)) }
 {
@@ -50,7 +55,7 @@ pub(crate) fn unsigned(kind: Kind) -> bool
     }
 }
 
-/// The type that a variable is declared of, where a variable may have it.
+/// Returns the type of a variable that is declared with this type name, if a variable may have it.
 pub fn declarable(name: TypeName) -> Option<Ty>
     ensures { result ≡ declarable name }
 {
@@ -64,7 +69,7 @@ pub fn declarable(name: TypeName) -> Option<Ty>
     }
 }
 
-/// A whole number is a UInt, every other fraction a UReal.
+/// Returns UInt for an integer, and UReal for any other fraction.
 fn kind_of_value(value: Frac) -> Kind
     ensures { kind_of result ≡ if value.den == 1 then uint else ureal }
 {
@@ -75,7 +80,7 @@ fn kind_of_value(value: Frac) -> Kind
     }
 }
 
-/// A number literal.
+/// Returns a number literal.
 pub(crate) fn literal(number: Lit) -> Option<Meaning>
     ensures { option_map meaning_of result ≡ literal number }
 {
@@ -83,21 +88,21 @@ pub(crate) fn literal(number: Lit) -> Option<Meaning>
     Some(Meaning::Number(kind_of_value(value), Form::Const(Ext::Fin(value))))
 }
 
-/// `true` or `false`
+/// Returns `true` or `false`.
 pub(crate) fn constant(value: bool) -> Meaning
     ensures { meaning_of result ≡ constant value }
 {
     Meaning::Truth(Cond::Const(value))
 }
 
-/// `\infty`
+/// Returns `\infty`.
 pub(crate) fn infinity() -> Meaning
     ensures { meaning_of result ≡ infinity }
 {
     Meaning::Number(Kind::EUReal, Form::Const(Ext::Inf))
 }
 
-/// A visible variable.
+/// Returns a visible variable.
 pub(crate) fn variable(local: Local) -> Meaning
     ensures { meaning_of result ≡ variable local }
 {
@@ -111,7 +116,7 @@ pub(crate) fn variable(local: Local) -> Meaning
     }
 }
 
-/// A form of EUReal, where the condition on its parts holds.
+/// Returns a formula of type EUReal, if `holds` is true.
 fn extended(holds: bool, form: Form) -> Option<Meaning>
     ensures { option_map meaning_of result ≡ extended holds (form_of form) }
 {
@@ -122,9 +127,10 @@ fn extended(holds: bool, form: Form) -> Option<Meaning>
     }
 }
 
-/// `a - b` of two numbers whose types have this join.
+/// Returns `a - b` for two numbers with this common type.
 fn minus(kind: Kind, a: Box<Form>, b: Box<Form>) -> Option<Meaning>
-    ensures { option_map meaning_of result ≡ minus (kind_of kind) (form_of a.value) (form_of b.value) }
+    ensures { option_map meaning_of result
+        ≡ minus (kind_of kind) (form_of a.value) (form_of b.value) }
 {
     match kind {
         Kind::Int => Some(Meaning::Number(Kind::Int, Form::Diff(a, b))),
@@ -134,7 +140,7 @@ fn minus(kind: Kind, a: Box<Form>, b: Box<Form>) -> Option<Meaning>
     }
 }
 
-/// A comparison of two numbers whose types have this join.
+/// Returns a comparison of two numbers with this common type.
 fn comparison(kind: Kind, test: Cond) -> Option<Meaning>
     ensures { option_map meaning_of result ≡ comparison (kind_of kind) (cond_of test) }
 {
@@ -146,14 +152,14 @@ fn comparison(kind: Kind, test: Cond) -> Option<Meaning>
     }
 }
 
-/// The condition that doesn't hold where this one does.
+/// Returns the negation of a condition.
 fn denied(alloc: Global, test: Cond) -> Result<Cond, AllocError>
     ensures { IfOk result (λ made. cond_of made ≡ not (cond_of test)) }
 {
     Ok(Cond::Not(Box::new(alloc, test)?))
 }
 
-/// An operator between two numbers whose types have this join.
+/// Returns an operator between two numbers with this common type.
 fn joined_numbers(
     alloc: Global,
     op: BinaryOp,
@@ -162,7 +168,8 @@ fn joined_numbers(
     b: Form,
     kind: Kind,
 ) -> Result<Option<Meaning>, AllocError>
-    ensures { IfOk result (λ made. option_map meaning_of made ≡ joined_numbers op span (form_of a) (form_of b) (kind_of kind)) }
+    ensures { IfOk result (λ made. option_map meaning_of made
+        ≡ joined_numbers op span (form_of a) (form_of b) (kind_of kind)) }
 {
     let a = Box::new(alloc, a)?;
     let b = Box::new(alloc, b)?;
@@ -184,7 +191,7 @@ fn joined_numbers(
     }
 }
 
-/// An operator between two numbers of these types.
+/// Returns an operator between two numbers of these types.
 fn numbers(
     alloc: Global,
     op: BinaryOp,
@@ -192,7 +199,8 @@ fn numbers(
     left: (Kind, Form),
     right: (Kind, Form),
 ) -> Result<Option<Meaning>, AllocError>
-    ensures { IfOk result (λ made. option_map meaning_of made ≡ numbers op span (kind_of left.0) (form_of left.1) (kind_of right.0) (form_of right.1)) }
+    ensures { IfOk result (λ made. option_map meaning_of made
+        ≡ numbers op span (kind_of left.0) (form_of left.1) (kind_of right.0) (form_of right.1)) }
 {
     let both = unsigned(left.0) && unsigned(right.0);
     match op {
@@ -224,7 +232,7 @@ fn numbers(
     }
 }
 
-/// An operator between two conditions.
+/// Returns an operator between two conditions.
 fn truths(alloc: Global, op: BinaryOp, a: Cond, b: Cond) -> Result<Option<Meaning>, AllocError>
     ensures { IfOk result (λ made. option_map meaning_of made ≡ truths op (cond_of a) (cond_of b)) }
 {
@@ -253,7 +261,7 @@ fn truths(alloc: Global, op: BinaryOp, a: Cond, b: Cond) -> Result<Option<Meanin
     }
 }
 
-/// An operator between two operands, but for the division.
+/// Returns an operator other than `/` between two operands.
 pub(crate) fn binary(
     alloc: Global,
     op: BinaryOp,
@@ -261,7 +269,8 @@ pub(crate) fn binary(
     left: Meaning,
     right: Meaning,
 ) -> Result<Option<Meaning>, AllocError>
-    ensures { IfOk result (λ made. option_map meaning_of made ≡ binary op span (meaning_of left) (meaning_of right)) }
+    ensures { IfOk result (λ made. option_map meaning_of made
+        ≡ binary op span (meaning_of left) (meaning_of right)) }
 {
     match (left, right) {
         (Meaning::Truth(a), Meaning::Truth(b)) => truths(alloc, op, a, b),
@@ -274,13 +283,14 @@ pub(crate) fn binary(
     }
 }
 
-/// `a / n`, as a multiple by this factor.
+/// Returns `a / n` as a multiple by `factor`.
 pub(crate) fn quotient(
     alloc: Global,
     factor: Frac,
     inner: Meaning,
 ) -> Result<Option<Meaning>, AllocError>
-    ensures { IfOk result (λ made. option_map meaning_of made ≡ quotient factor (meaning_of inner)) }
+    ensures { IfOk result (λ made. option_map meaning_of made
+        ≡ quotient factor (meaning_of inner)) }
 {
     match inner {
         Meaning::Truth(_) => Ok(None),
@@ -301,21 +311,21 @@ pub(crate) fn quotient(
     }
 }
 
-/// 0 as a form.
+/// Returns 0 as a formula.
 pub fn nothing() -> Form
     ensures { form_of result ≡ nought }
 {
     Form::Const(Ext::Fin(Frac::zero()))
 }
 
-/// Infinity as a form.
+/// Returns infinity as a formula.
 pub fn endless() -> Form
     ensures { form_of result ≡ number infinite }
 {
     Form::Const(Ext::Inf)
 }
 
-/// `0 - a`
+/// Returns `0 - a`.
 fn opposite(alloc: Global, form: Form) -> Result<Form, AllocError>
     ensures { IfOk result (λ made. form_of made ≡ difference nought (form_of form)) }
 {
@@ -323,7 +333,7 @@ fn opposite(alloc: Global, form: Form) -> Result<Form, AllocError>
     Ok(Form::Diff(Box::new(alloc, nothing())?, form))
 }
 
-/// `-a`
+/// Returns `-a`.
 fn negative(alloc: Global, inner: Meaning) -> Result<Option<Meaning>, AllocError>
     ensures { IfOk result (λ made. option_map meaning_of made ≡ negative (meaning_of inner)) }
 {
@@ -341,7 +351,7 @@ fn negative(alloc: Global, inner: Meaning) -> Result<Option<Meaning>, AllocError
     }
 }
 
-/// `!a`
+/// Returns `!a`.
 fn negation(alloc: Global, inner: Meaning) -> Result<Option<Meaning>, AllocError>
     ensures { IfOk result (λ made. option_map meaning_of made ≡ negation (meaning_of inner)) }
 {
@@ -358,7 +368,7 @@ fn negation(alloc: Global, inner: Meaning) -> Result<Option<Meaning>, AllocError
     }
 }
 
-/// `~a`
+/// Returns `~a`.
 fn conegation(alloc: Global, inner: Meaning) -> Result<Option<Meaning>, AllocError>
     ensures { IfOk result (λ made. option_map meaning_of made ≡ conegation (meaning_of inner)) }
 {
@@ -375,7 +385,7 @@ fn conegation(alloc: Global, inner: Meaning) -> Result<Option<Meaning>, AllocErr
     }
 }
 
-/// An operator before its operand.
+/// Returns a prefix operator before its operand.
 pub(crate) fn unary(
     alloc: Global,
     op: UnaryOp,
@@ -390,7 +400,7 @@ pub(crate) fn unary(
     }
 }
 
-/// `[a]`
+/// Returns `[a]`.
 pub(crate) fn bracket(alloc: Global, inner: Meaning) -> Result<Option<Meaning>, AllocError>
     ensures { IfOk result (λ made. option_map meaning_of made ≡ bracket (meaning_of inner)) }
 {
@@ -404,7 +414,7 @@ pub(crate) fn bracket(alloc: Global, inner: Meaning) -> Result<Option<Meaning>, 
     }
 }
 
-/// `?(a)`
+/// Returns `?(a)`.
 pub(crate) fn embedding(alloc: Global, inner: Meaning) -> Result<Option<Meaning>, AllocError>
     ensures { IfOk result (λ made. option_map meaning_of made ≡ embedding (meaning_of inner)) }
 {
@@ -418,7 +428,7 @@ pub(crate) fn embedding(alloc: Global, inner: Meaning) -> Result<Option<Meaning>
     }
 }
 
-/// `ite(a, b, c)` for a condition and two forms.
+/// Returns `ite(a, b, c)` for a condition and two formulas.
 fn select(alloc: Global, test: Cond, a: Form, b: Form) -> Result<Form, AllocError>
     ensures { IfOk result (λ made. form_of made ≡ select (cond_of test) (form_of a) (form_of b)) }
 {
@@ -427,7 +437,7 @@ fn select(alloc: Global, test: Cond, a: Form, b: Form) -> Result<Form, AllocErro
     Ok(Form::Select(test, a, Box::new(alloc, b)?))
 }
 
-/// `ite(a, b, c)` for three conditions.
+/// Returns `ite(a, b, c)` for three conditions.
 fn branch(alloc: Global, test: Cond, a: Cond, b: Cond) -> Result<Cond, AllocError>
     ensures { IfOk result (λ made. cond_of made ≡ ite (cond_of test) (cond_of a) (cond_of b)) }
 {
@@ -436,14 +446,15 @@ fn branch(alloc: Global, test: Cond, a: Cond, b: Cond) -> Result<Cond, AllocErro
     Ok(Cond::Ite(test, a, Box::new(alloc, b)?))
 }
 
-/// `ite(a, b, c)` for a condition a.
+/// Returns `ite(a, b, c)` for a condition `a`.
 fn selected(
     alloc: Global,
     test: Cond,
     left: Meaning,
     right: Meaning,
 ) -> Result<Option<Meaning>, AllocError>
-    ensures { IfOk result (λ made. option_map meaning_of made ≡ selected (cond_of test) (meaning_of left) (meaning_of right)) }
+    ensures { IfOk result (λ made. option_map meaning_of made
+        ≡ selected (cond_of test) (meaning_of left) (meaning_of right)) }
 {
     match (left, right) {
         (Meaning::Truth(a), Meaning::Truth(b)) => {
@@ -461,14 +472,15 @@ fn selected(
     }
 }
 
-/// `ite(a, b, c)`
+/// Returns `ite(a, b, c)`.
 pub(crate) fn choice(
     alloc: Global,
     test: Meaning,
     left: Meaning,
     right: Meaning,
 ) -> Result<Option<Meaning>, AllocError>
-    ensures { IfOk result (λ made. option_map meaning_of made ≡ choice (meaning_of test) (meaning_of left) (meaning_of right)) }
+    ensures { IfOk result (λ made. option_map meaning_of made
+        ≡ choice (meaning_of test) (meaning_of left) (meaning_of right)) }
 {
     match test {
         Meaning::Truth(test) => selected(alloc, test, left, right),
@@ -477,7 +489,8 @@ pub(crate) fn choice(
     }
 }
 
-/// `sup x: T. a` or `inf x: T. a`, where x has this number and a type that a variable may have.
+/// Returns `sup x: T. a` or `inf x: T. a`, where `x` has this number and a type that a variable may
+/// have.
 fn bound(
     alloc: Global,
     up: bool,
@@ -485,7 +498,8 @@ fn bound(
     ty: Ty,
     inner: Meaning,
 ) -> Result<Option<Meaning>, AllocError>
-    ensures { IfOk result (λ made. option_map meaning_of made ≡ bound up number ty (meaning_of inner)) }
+    ensures { IfOk result (λ made. option_map meaning_of made
+        ≡ bound up number ty (meaning_of inner)) }
 {
     match inner {
         Meaning::Truth(_) => Ok(None),
@@ -497,7 +511,7 @@ fn bound(
     }
 }
 
-/// `sup x: T. a` or `inf x: T. a`, where x has this number.
+/// Returns `sup x: T. a` or `inf x: T. a`, where `x` has this number.
 pub(crate) fn quantified(
     alloc: Global,
     up: bool,
@@ -505,7 +519,8 @@ pub(crate) fn quantified(
     name: TypeName,
     inner: Meaning,
 ) -> Result<Option<Meaning>, AllocError>
-    ensures { IfOk result (λ made. option_map meaning_of made ≡ quantified up number name (meaning_of inner)) }
+    ensures { IfOk result (λ made. option_map meaning_of made
+        ≡ quantified up number name (meaning_of inner)) }
 {
     match declarable(name) {
         None => Ok(None),

@@ -7,7 +7,7 @@ ghost use Rattle.typed_expressions.specs.TypedExpressions.{has_quantifier};
 
 use heyvl_syntax::Expr;
 
-/// Whether a quantifier stands anywhere in the expression.
+/// Returns true if an expression has a quantifier anywhere.
 fn has_quantifier(e: &Expr) -> bool
     ensures { result ≡ has_quantifier (expression e.now) }
 {
@@ -25,7 +25,7 @@ fn has_quantifier(e: &Expr) -> bool
     }
 }
 
-/// Whether a quantifier stands anywhere in one of the expressions.
+/// Returns true if one of the expressions has a quantifier anywhere.
 pub fn any_quantified(all: &[Expr]) -> bool
     ensures { result ≡ list_any has_quantifier (expressions all.now) }
 {

@@ -6,7 +6,8 @@ ghost use Rattle.typed_expressions.specs.Findings.{at};
 use crate::stops::ResolveStop;
 use heyvl_places::Span;
 
-/// The first of these rules that is broken, at this place. Each rule is its number and whether it is broken.
+/// Returns the first of `rules` that is broken as an error at `span`. Each rule is its number and
+/// whether it is broken.
 pub fn told(span: Span, rules: &[(u8, bool)]) -> Result<(), ResolveStop>
     ensures { TellsFirst result (at span rules.now) }
 {

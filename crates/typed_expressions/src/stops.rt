@@ -1,4 +1,4 @@
-//! Why resolving stops.
+//! Why a file has no typed tree.
 
 ghost use Rattle.std.specs.Prelude.{◌≡◌, alloc_error};
 ghost use Rattle.typed_expressions.specs.declared.stops.ResolveStop.TheVariants.{Memory};
@@ -7,10 +7,10 @@ use heyvl_places::Span;
 use std::alloc::{AllocError, AllocFailed};
 use thiserror::Error;
 
-/// Why a file gives no typed tree.
+/// Why a file has no typed tree.
 #[derive(Debug, Drop, Error)]
 pub enum ResolveStop {
-    /// The first static fault, with its number and the bytes that it is about.
+    /// The first static error: its number and its place.
     #[error("fault {0} at the bytes {1}")]
     Fault(u8, Span),
     /// Memory ran out.

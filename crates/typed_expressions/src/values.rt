@@ -1,4 +1,4 @@
-//! The forms and conditions of what expressions become.
+//! The formulas and conditions of elaborated expressions.
 
 ghost use Rattle.heylo_formula.specs.PlainTrees.{cond_of, form_of};
 ghost use Rattle.std.specs.Prelude.{◌≡◌, Some};
@@ -9,7 +9,7 @@ use crate::meanings::Meaning;
 use heylo_formula::{Cond, Form};
 use heyvl_num::Ext;
 
-/// The form that an expression becomes; some form where it becomes none.
+/// Returns the formula of an elaborated expression; infinity if it is not a number.
 pub fn form(meaning: Meaning) -> Form
     ensures { form_of result ≡ form (Some (meaning_of meaning)) }
 {
@@ -19,7 +19,7 @@ pub fn form(meaning: Meaning) -> Form
     }
 }
 
-/// The condition that an expression becomes; some condition where it becomes none.
+/// Returns the condition of an elaborated expression; `false` if it is not a condition.
 pub fn condition(meaning: Meaning) -> Cond
     ensures { cond_of result ≡ condition (Some (meaning_of meaning)) }
 {

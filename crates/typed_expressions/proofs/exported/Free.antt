@@ -1,4 +1,4 @@
--- The free variables of what an expression becomes are visible.
+-- The free variables of an elaborated expression are visible.
 use Rattle.heylo_formula.specs.Formula.{Form}
 use Rattle.heylo_formula.specs.Typing.{is_unsigned}
 use Rattle.heylo_formula.specs.Variables.{IsOver, IsOverIn, is_free, is_free_in}
@@ -42,11 +42,11 @@ module _ (y : ℕ) where
     ite = λ g h k p q r. rw (p, q, r) refl;
   }
 
-  -- What an expression becomes doesn't have the variable free.
+  -- The variable is not free in the elaborated expression.
   abbrev pub IsWithout : Meaning → Type 0
   IsWithout m = Fails (is_free y) (is_free_in y) m
 
-  -- No visible variable is this one.
+  -- The variable is not visible.
   abbrev pub IsHidden : Scope → Type 0
   IsHidden sc = (x : List ℕ) (l : Local) → find sc x ≡ Some l → (y == l.number) ≡ false
 
@@ -100,11 +100,11 @@ module _ (y : ℕ) where
       let d = given_some (declarable t) (λ ty. bound up n ty i.0) m i.2 in
       without_bound n up d.0 i.0 m (λ j. becomes_without (suc n) _ (hidden_inside n sc x t j h) a i.0 i.1) d.2
 
--- Each visible variable is one of the first k.
+-- Each visible variable is one of the first `k`.
 pub record IsBelow (k : ℕ) (sc : Scope) : Type 0 where
   pub below : (x : List ℕ) (l : Local) → find sc x ≡ Some l → l.number < k
 
--- Each free variable of what an expression becomes is one of the first k.
+-- Each free variable of the elaborated expression is one of the first `k`.
 abbrev pub IsOverMeaning : ℕ → Meaning → Type 0
 IsOverMeaning k (Meaning.truth g) = IsOverIn k g
 IsOverMeaning k (Meaning.number t a) = IsOver k a

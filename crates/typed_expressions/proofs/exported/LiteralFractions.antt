@@ -1,4 +1,4 @@
--- The code's fractions of literals: each fits.
+-- The program's fractions of literals do not overflow.
 use Rattle.heyvl_num.specs.Exact.{exact_quotient, is_small, quotient, quotient_fits}
 use Rattle.heyvl_num.specs.Rational.{Rational, ratio, zeroʳ}
 use Rattle.heyvl_num.specs.Value.{is_zero_num}
@@ -18,7 +18,7 @@ up zero n m e = let q : n ≡ m = omega (arith, e) in rw q (omega arith)
 up (suc d) n zero e = absurd (omega (arith, e))
 up (suc d) n (suc m) e = let h = up d n m (omega (arith, e)) in let p = pow-suc 10 m in omega (arith, h, p)
 
--- A power of ten within the greatest number of places.
+-- A power of ten for the largest number of places.
 pub power_small : (n : ℕ) → n ≤ 38 → 10 ^ n < 2 ^ 127
 power_small n h = let u = up (38 - n) n 38 (omega (arith, h)) in let k : 10 ^ 38 < 2 ^ 127 = lit< tt in omega (arith, u, k)
 
@@ -36,7 +36,7 @@ quotient_is : (a d : ℕ) → a < 2 ^ 127 → 0 < d → d < 2 ^ 127 → exact_qu
 unfolding exact_quotient quotient_fits quotient
 quotient_is a d h p k = rw (not_zero d p, small a h, small d k) refl
 
--- The fraction that the code makes of digits and a power of ten, and its inverse.
+-- The program's fraction of digits and a power of ten.
 pub fraction_is : (d : ℤ) (n : ℕ) → FitsSigned w128 d → le_z (pos 0) d ≡ true → n ≤ 38 → exact_quotient d (pos (10 ^ n)) ≡ Some (ratio d (10 ^ n))
 fraction_is (pos d) n f h s = quotient_is d (10 ^ n) (omega (arith, ints, f)) (power_positive n) (power_small n s)
 fraction_is (negsuc d) n f h s = absurd (cc)
@@ -71,11 +71,11 @@ inverse_of_literal n h s =
     let z : is_zero_num n.digits ≡ false = positive n.digits h in
     rw (w, le-leb n.places 38 s, z) refl
 
--- A power of ten as it is handed on.
+-- A power of ten as an argument of 128 bits.
 pub passed_power : (z : ℤ) (n : ℕ) → z ≡ pos (10 ^ n) → n ≤ 38 → to_z w128 (of_z w128 z) ≡ pos (10 ^ n)
 passed_power z n e h = rw e (to_z-of_z w128 (pos (10 ^ n)) (fits_signed_from_abs w128 (pos (10 ^ n)) (power_small n h)))
 
--- The fraction of natural parts.
+-- The fraction of nonnegative parts.
 pub positive_quotient : (a d : ℤ) → FitsSigned w128 a → FitsSigned w128 d → le_z (pos 0) a ≡ true → le_z (pos 1) d ≡ true → exact_quotient a d ≡ Some (ratio a (unsigned_abs d))
 positive_quotient (pos a) (pos d) f g h k = quotient_is a d (omega (arith, ints, f)) (omega (arith, leb-true 1 d k)) (omega (arith, ints, g))
 positive_quotient (pos a) (negsuc d) f g h k = absurd (cc)
@@ -87,7 +87,7 @@ natural_num d zero h = refl
 natural_num (pos d) (suc b) h = le-leb 0 _ (omega arith)
 natural_num (negsuc d) (suc b) h = absurd (cc)
 
--- What a text can write isn't negative.
+-- The value of a literal is not negative.
 pub written_natural : (n : Lit) (q : Rational) → Some q ≡ (if is_written n then Some (literal_value n) else None) → le_z (pos 0) q.num ≡ true
 unfolding literal_value
 written_natural n q e = go (le_z (pos 0) n.digits) (nat_le n.places 38) refl e
@@ -97,7 +97,7 @@ written_natural n q e = go (le_z (pos 0) n.digits) (nat_le n.places 38) refl e
     go true false h i = absurd (cc)
     go false b h i = absurd (cc)
 
--- One divided by a literal isn't negative.
+-- One divided by a literal is not negative.
 pub inverse_natural : (n : Lit) (q : Rational) → Some q ≡ inverse n → le_z (pos 0) q.num ≡ true
 unfolding inverse_value
 inverse_natural n q e = go (is_written n && not (is_zero_literal n)) e

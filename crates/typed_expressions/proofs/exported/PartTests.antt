@@ -1,5 +1,5 @@
--- Tests of forms that a form passes only where one of its parts does: what the table of expressions makes of parts that fail such a
--- test fails it.
+-- Tests that a formula passes only if one of its parts does. If the parts of an expression fail
+-- such a test, so does the elaborated expression.
 use Rattle.heylo_formula.specs.Formula.{Cond, Form}
 use Rattle.heylo_formula.specs.Typing.NumberType.{eureal, int, uint, ureal}
 use Rattle.heylo_formula.specs.Typing.{NumberType, is_unsigned, join}
@@ -18,7 +18,7 @@ use Rattle.typed_expressions.specs.LiteralValues.{is_written, literal_value}
 use Rattle.typed_expressions.specs.Table.{Meaning, binary, bracket, choice, comparison, conegation, divisor, embedding, extended, factor, given, joined_numbers, literal, minus, negation, negative, numbers, quotient, selected, truths, unary}
 use Rattle.typed_expressions.specs.TypedExpressions.{operated}
 
--- A form or a condition whose parts fail the tests fails them.
+-- A formula or condition whose parts fail the tests fails them.
 pub record Spreads (F : Form → Bool) (G : Cond → Bool) : Type 0 where
   pub number : (v : Value) → F (Form.number v) ≡ false
   pub sum : (a b : Form) → F a ≡ false → F b ≡ false → F (Form.sum a b) ≡ false
@@ -44,7 +44,7 @@ pub record Spreads (F : Form → Bool) (G : Cond → Bool) : Type 0 where
   pub ite : (g h k : Cond) → G g ≡ false → G h ≡ false → G k ≡ false → G (Cond.ite g h k) ≡ false
 
 module _ (F : Form → Bool) (G : Cond → Bool) where
-  -- What an expression becomes fails the tests.
+  -- The elaborated expression fails the tests.
   abbrev pub Fails : Meaning → Type 0
   Fails (Meaning.truth g) = G g ≡ false
   Fails (Meaning.number t a) = F a ≡ false

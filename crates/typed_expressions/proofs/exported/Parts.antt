@@ -1,4 +1,4 @@
--- How what is found against parts makes up what is found against the whole.
+-- The findings in a whole, from those in its parts.
 use Rattle.typed_expressions.specs.Answers.{Gives, TellsFirst}
 use Rattle.typed_expressions.specs.Findings.{Finding, first}
 use Rattle.typed_expressions.specs.declared.stops.ResolveStop.{ResolveStop}
@@ -8,16 +8,16 @@ pub first_in : (xs ys : List Finding) (f : Finding) → first xs ≡ Some f → 
 first_in [] ys f h = absurd (cc)
 first_in (x ∷ xs) ys f h = h
 
--- Where nothing is found against the first part.
+-- The first part has no findings.
 pub behind : (xs ys : List Finding) → xs ≡ [] → xs ++ ys ≡ ys
 behind xs ys h = ap (λ zs. zs ++ ys) h
 
--- A stop in the first part is one of the whole.
+-- An error in the first part is one in the whole.
 pub stops : {A B C D : Type 0} (v : A → C) (w : B → D) (e : ResolveStop) (xs ys : List Finding) (c : C) (d : D) → Gives v (Err e) xs c → Gives w (Err e) (xs ++ ys) d
 stops v w (ResolveStop.Fault n s) xs ys c d h = first_in xs ys (n, s) h
 stops v w (ResolveStop.Memory e) xs ys c d h = tt
 
--- It only depends on what is found.
+-- An answer depends on the findings alone.
 pub stops_at : {A B C D : Type 0} (v : A → C) (w : B → D) (e : ResolveStop) (xs ys : List Finding) (c : C) (d : D) → ys ≡ xs → Gives v (Err e) xs c → Gives w (Err e) ys d
 stops_at v w (ResolveStop.Fault n s) xs ys c d i h = ap first i ∙ h
 stops_at v w (ResolveStop.Memory e) xs ys c d i h = tt

@@ -1,4 +1,4 @@
--- Scopes as the tables of names that hold them.
+-- Scopes, as entries of tables of names.
 use Rattle.typed_expressions.specs.Scopes.{Scope, find, is_visible, numbers, with_local}
 use Rattle.typed_expressions.specs.Views.{entries_of}
 use Rattle.typed_expressions.specs.declared.scopes.Local.{Local}

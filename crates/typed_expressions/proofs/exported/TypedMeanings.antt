@@ -1,4 +1,4 @@
--- What expressions become is well typed and at most twice as large: row by row of the table.
+-- Elaborated expressions are well typed and at most twice as large, row by row of the table.
 use Rattle.heylo_formula.specs.Formula.{Cond, Form}
 use Rattle.heylo_formula.specs.Sizes.{nodes, nodes_in}
 use Rattle.heylo_formula.specs.Typing.NumberType.{eureal, int, uint, ureal}
@@ -69,7 +69,7 @@ unfolding zeroʳ ratio leqʳ gcd gcd_steps
 nought_type types = refl
 
 module _ (types : Types) where
-  -- Well typed, and of at most so many nodes.
+  -- Well typed, with at most `n` nodes.
   pub record Good (n : ℕ) (m : Meaning) : Type 0 where
     pub typed : IsTyped types m
     pub small : size m ≤ n
@@ -92,7 +92,7 @@ module _ (types : Types) where
   good_embedding k (Meaning.number t a) m h e = never m e
   good_embedding k Meaning.real m h e = never m e
 
-  -- A form of EUReal where the condition holds.
+  -- A formula of type `EUReal` if the Boolean holds.
   good_extended : (n : ℕ) (b : Bool) (a : Form) → (b ≡ true → type_of types a ≡ Some eureal) → nodes a ≤ n → (m : Meaning) → extended b a ≡ Some m → Good n m
   good_extended n true a p s m e = become (Good n) _ m e (record { typed = p refl; small = s })
   good_extended n false a p s m e = never m e

@@ -3,7 +3,7 @@ use Rattle.std.proofs.Common.{drop, map, ◌≡◌}
 use Rattle.typed_expressions.proofs.calls.calls_of.Given as goal
 use Rattle.typed_expressions.specs.Signatures.{called, with_signatures}
 
--- The next number is the place; and with those that are left, the procedures are those of all.
+-- The next number is the index, and the procedures so far with the remaining ones are all.
 abbrev pub invariant-loop-proc : goal.invariant-loop-proc
 invariant-loop-proc l = record {
   number : l.number ≡ l.proc-index;

@@ -1,6 +1,5 @@
 use Rattle.std.proofs.Common.{map, take, ◌≡◌}
 use Rattle.typed_expressions.proofs.calls.types.Given as goal
 
--- The types are those of the parameters that were visited.
 abbrev pub invariant-loop-param : goal.invariant-loop-param
 invariant-loop-param l = l.all.items ≡ map (λ param. param.ty) (take l.param-index l.params)

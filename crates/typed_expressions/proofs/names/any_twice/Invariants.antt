@@ -2,7 +2,6 @@ use Rattle.std.proofs.Common.{length, ◌≡◌}
 use Rattle.typed_expressions.proofs.names.any_twice.Given as goal
 use Rattle.typed_expressions.specs.Names.{any_twice}
 
--- What is true of the names that are left is true of all.
 abbrev pub invariant-loop-name : goal.invariant-loop-name
 invariant-loop-name l = any_twice l.names ≡ any_twice l.rest
 

@@ -3,6 +3,5 @@ use Rattle.std.specs.List.{list_any}
 use Rattle.std.specs.Str.{bytes_eq}
 use Rattle.typed_expressions.proofs.names.stands_among.Given as goal
 
--- What is true of the names that are left is true of all.
 abbrev pub invariant-loop-other : goal.invariant-loop-other
 invariant-loop-other l = list_any (bytes_eq l.name) l.names ≡ list_any (bytes_eq l.name) (drop l.other-index l.names)
