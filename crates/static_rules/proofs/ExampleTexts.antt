@@ -1,4 +1,4 @@
--- Words with which worked texts are written as plain trees. A place is given by its first byte alone.
+-- Abbreviations for worked texts as plain trees. A place is given by its first byte alone.
 use Rattle.heyvl_places.specs.declared.spans.Span.{Span}
 use Rattle.heyvl_syntax.specs.Expressions.{Expression}
 use Rattle.heyvl_syntax.specs.Procedures.{Procedure}
@@ -13,7 +13,7 @@ use Rattle.typed_expressions.specs.Findings.{Finding}
 abbrev pub sp : ℕ → Span
 sp n = record { from = n; to = n }
 
--- The fault of this number at the column, which counts from 1.
+-- The error with this number at a column, counted from 1.
 abbrev pub fault : ℕ → ℕ → Option Finding
 fault n from = Some (n, sp from)
 
@@ -33,6 +33,6 @@ block (s ∷ ss) = Block.next s (block ss)
 abbrev pub param : List ℕ → TypeName → ℕ → Param
 param x t s = record { name = x; ty = t; span = sp s }
 
--- A coproc or proc with its name, parameters, one pre clause, post clauses and a body.
+-- A coproc or proc with its name, parameters, pre clauses, post clauses and a body.
 abbrev pub procedure : Bool → Option Note → List ℕ → List Param → List Param → List Expression → List Expression → Option Block → ℕ → Procedure
 procedure co note name inputs outputs pres posts body s = record { co = co; note = note; name = name; inputs = inputs; outputs = outputs; pres = pres; posts = posts; body = body; span = sp s }

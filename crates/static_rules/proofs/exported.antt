@@ -1,2 +1,2 @@
--- The lemmas that crates above may cite. All other proofs are private.
+-- The lemmas that other crates may cite. All other proofs are private.
 pub mod Findings

@@ -1,10 +1,11 @@
--- Files whose procedures have few variables and few loops, as each file that tokens spell.
+-- Files whose procedures have few variables and few loops, as in each file that tokens spell. This
+-- project's own.
 use Rattle.heyvl_acts.specs.Rules.{Each}
 use Rattle.heyvl_syntax.specs.Procedures.{Procedure}
 use Rattle.static_rules.specs.Files.{loops_of_body, variable_count}
 use Rattle.std.specs.Prelude.{List, ◌<◌, ◌^◌}
 
--- A procedure that declares fewer than 2^31 variables, and whose body has fewer than 2^31 loops.
+-- The procedure has fewer than 2^31 variables, and its body has fewer than 2^31 loops.
 pub record HasFewParts (p : Procedure) : Type 0 where
   pub variables : variable_count p < 2 ^ 31
   pub loops : loops_of_body p.body < 2 ^ 31

@@ -1,5 +1,6 @@
--- The variables that a procedure declares: its parameters, those of its body in the order of the text, and those of the quantifiers
--- in the fronts of its post clauses. A variable's number is its place among them.
+-- The variables of a procedure: its parameters, those of its body in the order of the text, and
+-- those of the leading quantifiers of its post clauses. The number of a variable is its index among
+-- them. This project's own.
 use Rattle.heyvl_acts.specs.Acts.{Variable}
 use Rattle.heyvl_syntax.specs.Statements.{Arms, Block, Statement}
 use Rattle.heyvl_syntax.specs.declared.procedures.Param.{Param}
@@ -7,12 +8,12 @@ use Rattle.std.specs.Prelude.{List, None, Option, Some, [], map, suc, ◌++◌, 
 use Rattle.typed_expressions.specs.DeclaredVariables.{declared}
 use Rattle.typed_expressions.specs.Scopes.{Scope, with_local}
 
--- The variables that parameters declare, in their order.
+-- The variables of parameters, in their order.
 abbrev pub parameters : List Param → List Variable
 parameters ps = map (λ p. declared p.name p.ty) ps
 
 abbrev mutual
-  -- The variables that a statement declares, those of its blocks too, in the order of the text.
+  -- The variables that a statement declares, also in its blocks, in the order of the text.
   pub locals : Statement → List Variable
   locals (Statement.var x t r s) = declared x t ∷ []
   locals (Statement.assign xs r s) = []
@@ -24,22 +25,23 @@ abbrev mutual
   locals (Statement.pick up a b s) = locals_of_block a ++ locals_of_block b
   locals (Statement.loop rules g b s) = locals_of_block b
 
-  -- Those that a block declares.
+  -- The variables that a block declares.
   pub locals_of_block : Block → List Variable
   locals_of_block Block.done = []
   locals_of_block (Block.next s b) = locals s ++ locals_of_block b
 
-  -- Those that arms declare.
+  -- The variables that the blocks of arms declare.
   pub locals_of_arms : Arms → List Variable
   locals_of_arms Arms.no_arm = []
   locals_of_arms (Arms.arm g b more) = locals_of_block b ++ locals_of_arms more
 
--- The variables that a procedure's body declares, in the order of the text; none where it has no body.
+-- The variables that a body declares; none without a body.
 abbrev pub locals_of_body : Option Block → List Variable
 locals_of_body None = []
 locals_of_body (Some b) = locals_of_block b
 
--- What is visible behind a statement: it, and a variable that the statement declares, which has the number n.
+-- The scope after a statement: `sc`, and the variable that the statement declares, which has the
+-- number `n`.
 abbrev pub behind : ℕ → Scope → Statement → Scope
 behind n sc (Statement.var x t r s) = with_local x (record { number = n; ty = t }) sc
 behind n sc (Statement.assign xs r s) = sc
@@ -51,7 +53,8 @@ behind n sc (Statement.branch arms other s) = sc
 behind n sc (Statement.pick up a b s) = sc
 behind n sc (Statement.loop rules g b s) = sc
 
--- What is visible behind parameters, of which the first has the number n.
+-- The scope after parameters, of which the first has the number `n`.
 abbrev pub behind_parameters : ℕ → Scope → List Param → Scope
 behind_parameters n sc [] = sc
-behind_parameters n sc (p ∷ ps) = behind_parameters (suc n) (with_local p.name (record { number = n; ty = p.ty }) sc) ps
+behind_parameters n sc (p ∷ ps) =
+    behind_parameters (suc n) (with_local p.name (record { number = n; ty = p.ty }) sc) ps

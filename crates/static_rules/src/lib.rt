@@ -1,4 +1,5 @@
-//! The static rules of statements, procedures and files, and the typed tree that a file becomes, as definitions.
+//! The static rules of statements, procedures and files, and the typed tree of a file, as
+//! definitions.
 #![tactic(auto)]
 
 mod settings;

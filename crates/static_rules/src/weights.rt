@@ -1,16 +1,16 @@
-//! What an expression is where a probability or a step is asked for.
+//! Weights: expressions as probabilities or steps.
 
 use heyvl_num::Frac;
 
-/// What an expression is as a weight.
+/// An expression as a weight.
 #[derive(Clone, Copy, Debug)]
 pub enum Weight {
     /// Neither a number literal nor one divided by another.
     NotLiteral,
-    /// One number literal divided by another that is 0.
+    /// A number literal divided by one that is 0.
     OverZero,
-    /// A value with 2^62 or more as its numerator or denominator in lowest terms.
+    /// A value whose numerator or denominator in lowest terms is 2^62 or more.
     TooWide,
-    /// Every other value.
+    /// Any other value.
     Value(Frac),
 }

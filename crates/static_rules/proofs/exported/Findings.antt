@@ -1,4 +1,4 @@
--- Where nothing is found: nothing in any part of the findings, and each rule is kept.
+-- Without findings, no part has findings, and no rule is broken.
 use Rattle.heyvl_acts.specs.Rules.{Each}
 use Rattle.heyvl_places.specs.declared.spans.Span.{Span}
 use Rattle.std.proofs.Common.{Bool, List, [], false, refl, true, ◌∷◌, ◌++◌, ◌≡◌, ℕ}
@@ -13,11 +13,11 @@ pub back_none : {A : Type 0} (xs ys : List A) → xs ++ ys ≡ [] → ys ≡ []
 back_none [] ys e = e
 back_none (x ∷ xs) ys e = absurd (cc)
 
--- A rule of a node that isn't broken.
+-- A rule of a node that is not broken.
 abbrev pub IsKeptFinding : ℕ × Bool → Type 0
 IsKeptFinding rule = rule.1 ≡ false
 
--- Each rule of the node is kept.
+-- No rule of the node is broken.
 pub all_kept : (s : Span) (rules : List (ℕ × Bool)) → at s rules ≡ [] → Each IsKeptFinding rules
 all_kept s [] e = tt
 all_kept s (rule ∷ rules) e = go rule.1 refl e (all_kept s rules)
