@@ -1,4 +1,4 @@
--- Where each If of a file has an arm, each If of its typed tree has one.
+-- If each `if` of a file has an arm, each `if` of its typed tree has one.
 use Rattle.heyvl_acts.proofs.exported.ArmedActs.{AreArmed, AreArmedIn, HasSomeArm, IsArmedAct, armed_join}
 use Rattle.heyvl_acts.specs.Acts.{acts_in}
 use Rattle.heyvl_places.specs.declared.spans.Span.{Span}

@@ -1,4 +1,5 @@
--- Behind a check against the direction nothing binds: what the rules say of the text holds of its acts in their order.
+-- No act binds after a check against the direction: the rule on the text carries over to its acts
+-- in their order.
 use Rattle.heylo_formula.specs.Formula.{Form}
 use Rattle.heyvl_acts.specs.Acts.{Act, Acts, acts_in}
 use Rattle.heyvl_acts.specs.Places.{in_order, inside_arms}
@@ -30,7 +31,7 @@ none_bind : (xs ys : List Act) → any_binds xs ≡ false → any_binds ys ≡ f
 none_bind [] ys p q = q
 none_bind (x ∷ xs) ys p q = or_from _ _ (or_parts _ _ p).0 (none_bind xs ys (or_parts _ _ p).1 q)
 
--- ---- Statements that don't bind become acts that don't
+-- ---- Statements that do not bind have acts that do not bind
 
 unbound_assigned : (called : Called) (n : ℕ) (sc : Scope) (xs : List ℕ) (r : RightSide) (s : Span) → is_call r ≡ false → any_binds (in_order (Acts.next (assigned called n sc xs r s) Acts.done)) ≡ false
 unbound_assigned called n sc xs (RightSide.plain e) s u = refl
@@ -43,7 +44,7 @@ unbound_declared : (h : Setting) (called : Called) (n : ℕ) (sc : Scope) (t : T
 unbound_declared h called n sc t None s u = absurd (cc)
 unbound_declared h called n sc t (Some r) s u = unbound_assigned called n sc (n ∷ []) r s u
 
--- The acts inside an act alone, and those behind it.
+-- The acts inside a single act, and those after it.
 inside_alone : (xs ys zs : List Act) → ((xs ++ ys) ++ []) ++ zs ≡ xs ++ (ys ++ zs)
 inside_alone xs ys zs = rw (append-nil, append_assoc) refl
 
@@ -88,14 +89,14 @@ against_check co CheckKind.Assume bound f s k e = against co bound k e
 against_check co CheckKind.CoAssert bound f s k e = absurd (cc)
 against_check co CheckKind.CoAssume bound f s k e = against (not co) bound k e
 
--- ---- All acts, with those behind them
+-- ---- All acts, and those after them
 
 module _ (h : Setting) (called : Called) (quantified : Bool) where
-  -- Neither the post nor one of these acts binds.
+  -- Neither the post nor one of the acts binds.
   abbrev pub Unbound : List Act → Type 0
   Unbound acts = (quantified || any_binds acts) ≡ false
 
-  -- Where acts of a text that doesn't bind stand before acts that don't, none of both binds.
+  -- The acts of a text that does not bind, before acts that do not bind.
   further : (bound more : Bool) (xs ys : List Act) → (more ≡ false → any_binds xs ≡ false) → (bound ≡ false → Unbound ys) → (bound || more) ≡ false → Unbound (xs ++ ys)
   further bound more xs ys p q e =
       let u = q (or_parts bound more e).0 in
@@ -116,7 +117,7 @@ module _ (h : Setting) (called : Called) (quantified : Bool) where
   behind_havocs sc co [] s ys p = p
   behind_havocs sc co (x ∷ xs) s ys p = (λ i. absurd (cc), behind_havocs sc co xs s ys p)
 
-  -- The acts of a text in which nothing is found, before acts of which the same is known.
+  -- The acts of a text without findings, before acts that satisfy the rule.
   abbrev Stands : Bool → List Act → List Act → Type 0
   Stands bound acts ys = (bound ≡ false → Unbound ys) → NothingBindsBehind h.co quantified ys → NothingBindsBehind h.co quantified (acts ++ ys)
 

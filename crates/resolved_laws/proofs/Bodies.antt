@@ -1,4 +1,5 @@
--- The body of a typed procedure against which nothing is found: directions, binders, scopes, loops and their numbers.
+-- The body of a typed procedure without findings: directions, binders, scopes, loops and their
+-- numbers.
 use Rattle.heylo_formula.specs.Binders.{has_binder}
 use Rattle.heyvl_acts.specs.Acts.{Act, TypedProcedure, acts_in, variables}
 use Rattle.heyvl_acts.specs.Places.{in_order}
@@ -26,7 +27,7 @@ use Rattle.std.specs.Prelude.{leb, length, ◌||◌}
 use Rattle.typed_expressions.specs.Scopes.{numbers}
 use Rattle.typed_expressions.specs.Signatures.{called}
 
--- ---- Numbers in a row
+-- ---- Consecutive numbers
 
 inside_row : (n k y : ℕ) → n ≤ y → y < n + k → among (counted n k) y ≡ true
 inside_row n zero y p q = absurd (omega arith)
@@ -58,7 +59,7 @@ from_none k = omega arith
 
 -- ---- Procedures
 
--- A procedure of a file against which nothing is found.
+-- A procedure of a file without findings.
 module _ (ps : List Procedure) (p : Procedure) (k : IsClean (called ps) p) where
   abbrev typed_one : TypedProcedure
   typed_one = typed (called ps) p
@@ -86,7 +87,7 @@ module _ (ps : List Procedure) (p : Procedure) (k : IsClean (called ps) p) where
   pub head_known : Known (variables typed_one) (setting p) (called ps) (arity p) (head_scope p)
   head_known = record { agrees = head_agrees (called ps) p k (variables typed_one) (head_stands (called ps) p); inputs = omega arith; grows = head_grows }
 
-  -- What holds of the acts that each statement becomes alone holds of each act of the body.
+  -- A property of the acts of each statement alone is one of each act of the body.
   pub each_act : (P : Act → Type 0) → Locally (variables typed_one) (setting p) (called ps) P → Each P (in_order (acts_in typed_one.body))
   each_act P own = go p.body (body_stands (called ps) p) k.body
     where

@@ -1,4 +1,4 @@
--- What calls can name in a file against whose procedures nothing is found: each is a procedure of the file.
+-- The callable procedures of a file without findings are procedures of the file.
 use Rattle.heyvl_acts.specs.Acts.{TypedProcedure, procedure_at}
 use Rattle.heyvl_acts.specs.Rules.{Each}
 use Rattle.heyvl_syntax.specs.Procedures.{Procedure}
@@ -17,7 +17,7 @@ use Rattle.typed_expressions.specs.Scopes.{Scope, is_visible}
 use Rattle.typed_expressions.specs.Signatures.{Called, Signature, called, find_call, signature, with_signature, with_signatures}
 use Rattle.typed_expressions.specs.Table.{declarable}
 
--- The signature is that of a procedure of the file, by its place.
+-- The signature is that of a procedure of the file, by its index.
 pub record IsSignature (ps : List Procedure) (t : Signature) : Type 0 where
   pub before : List Procedure
   pub procedure : Procedure
@@ -41,7 +41,7 @@ found_with x s (f ∷ fs) y t e = go (bytes_eq x f.0) (found_with x s fs y t) e
     go true r h = inr h
     go false r h = later (bytes_eq y f.0) r h
 
--- All that can be called are procedures of the file.
+-- All callable procedures are procedures of the file.
 abbrev AreSignatures : List Procedure → Called → Type 0
 AreSignatures ps c = (y : List ℕ) (t : Signature) → find_call c y ≡ Some t → IsSignature ps t
 
@@ -58,9 +58,9 @@ with_signatures_are ps before (p ∷ rest) n c w l h =
 called_are : (ps : List Procedure) → AreSignatures ps (called ps)
 called_are ps = with_signatures_are ps [] ps 0 [] refl refl (λ y t e. absurd (cc))
 
--- ---- Callees
+-- ---- Called procedures
 
--- A signature is that of a typed procedure, against which nothing is found.
+-- The signature is that of a typed procedure without findings.
 pub record IsCallee (c : Called) (rs : List TypedProcedure) (t : Signature) : Type 0 where
   pub procedure : Procedure
   pub clean : IsClean c procedure
@@ -94,7 +94,7 @@ callees ps k y t e = callee (called ps) ps t k (called_are ps y t e)
 
 -- ---- Parameters
 
--- The types of parameters may be declared.
+-- The type of a parameter is one that a variable may have.
 abbrev pub IsDeclared : Param → Type 0
 IsDeclared q = is_none (declarable q.ty) ≡ false
 

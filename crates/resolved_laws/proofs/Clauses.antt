@@ -1,4 +1,4 @@
--- The pre and the post of a procedure against which nothing is found.
+-- The pre and the post of a procedure without findings.
 use Rattle.heylo_formula.proofs.exported.Plain.{joins}
 use Rattle.heylo_formula.proofs.exported.Substitutions.{binder_free_directed}
 use Rattle.heylo_formula.specs.Binders.{has_binder}
@@ -43,8 +43,8 @@ use Rattle.typed_expressions.specs.declared.demands.Front.{Front}
 
 -- ---- Joined clauses
 
--- What holds of 0 and infinity, and of a maximum and a minimum where it holds of both parts, holds of clauses that are joined where
--- it holds of each.
+-- A property of 0, of infinity, and of the maximum and minimum of two formulas that have it. Joined
+-- clauses have it if each clause has it.
 pub record IsJoined (Q : Form → Type 0) : Type 0 where
   pub zero : Q (Form.number zeroᵛ)
   pub infinity : Q (Form.number infinite)
@@ -128,7 +128,7 @@ plain_directed co (Meaning.truth g) h = tt
 plain_directed co (Meaning.number t a) h = binder_free_directed co a h
 plain_directed co Meaning.real h = tt
 
--- A quantifier that may stand in the front is of the direction.
+-- A leading quantifier without a finding has the direction of the procedure.
 agree_allowed : (co up : Bool) → not (allows (front_of co) up) ≡ false → agree co up ≡ true
 agree_allowed true up h = not-false up h
 agree_allowed false true h = absurd (cc)

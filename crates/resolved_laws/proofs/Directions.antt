@@ -30,7 +30,7 @@ agreed true b e = e
 agreed false true e = absurd (cc)
 agreed false false e = refl
 
--- A procedure of the file, with what its statements have to know of it.
+-- A procedure of the file and its setting.
 module _ (ps : List TypedProcedure) (p : TypedProcedure) (h : Setting) (called : Called) (co : p.co ≡ h.co) (weak : p.weak ≡ h.weak) (callees : AreCallees called ps) where
   callable : (f : List ℕ) (o : Option Signature) → find_call called f ≡ o → is_none o ≡ false → is_of_other_direction h.co o ≡ false → is_quantified o ≡ false → IsCallable p.co (procedure_at ps (callee o))
   callable f None e a b c = absurd (cc)

@@ -1,4 +1,5 @@
--- The parts of a draw against which nothing is found fit its variable, and the formula of a toss is a probability.
+-- The parts of a draw without findings fit its variable, and the formula of a flip is a
+-- probability.
 use Rattle.heylo_formula.proofs.exported.Plain.{finite_plain}
 use Rattle.heylo_formula.specs.Formula.{Form}
 use Rattle.heylo_formula.specs.NumericVariables.{has_variable}
@@ -37,7 +38,7 @@ use Rattle.typed_expressions.specs.Table.{Meaning, declarable, given}
 use Rattle.typed_expressions.specs.TypedExpressions.{elaborate}
 use Rattle.typed_expressions.specs.Values.{form}
 
--- ---- Whole numbers
+-- ---- Integers
 
 whole_den : (k : ℤ) → (ratio k 1).den ≡ 1
 whole_den k = let d = ratio_den k 1 (omega arith) in let p = (ratio k 1).positive in let l = div-le_self 1 (gcd (unsigned_abs k) 1) in omega (arith, d, p, l)
@@ -46,7 +47,7 @@ whole_sign : (k : ℤ) → leqʳ zeroʳ (ratio k 1) ≡ le_z (pos 0) k
 unfolding zeroʳ
 whole_sign k = leq_ratio (pos 0) 1 k 1 (omega arith) (omega arith) ∙ rw (*ℤ-one k) refl
 
--- A whole number from 0 on is a UInt, every other one an Int.
+-- An integer from 0 on is a UInt, any other one an Int.
 whole_type : (k : ℤ) → constant_type (finite (ratio k 1)) ≡ Some (if le_z (pos 0) k then uint else int)
 whole_type k = rw (whole_sign k, whole_den k) (go (le_z (pos 0) k))
   where
@@ -58,7 +59,7 @@ uint_fits : (o : Option NumberType) → fits (Some uint) o ≡ true
 uint_fits (Some u) = refl
 uint_fits None = refl
 
--- An integer fits a number whose type is wide enough for the least of a row.
+-- An integer fits a variable whose type is wide enough for the smallest integer of the range.
 whole_fits : (types : Types) (ty : Ty) (negative : Bool) (k : ℤ) → (negative ≡ false → le_z (pos 0) k ≡ true) → NumberFits (if negative then int else uint) ty → TermFits types ty (whole_term k)
 whole_fits types ty negative k h f = (f.0, rw (whole_type k) (go negative (le_z (pos 0) k) h f.1))
   where
@@ -81,9 +82,9 @@ unif_fits types x (Some a) (Some b) h f =
 unif_fits types x (Some a) None h f = absurd (cc)
 unif_fits types x None b h f = absurd (cc)
 
--- ---- Draws and tosses
+-- ---- Draws and flips
 
--- A form of a finite type has no binder.
+-- A formula of a finite type has no binder.
 finite_probability : (types : Types) (a : Form) (t : NumberType) → type_of types a ≡ Some t → is_unsigned (Some t) ≡ true → is_finite_type (Some t) ≡ true → has_variable a ≡ false → IsProbability types a
 finite_probability types a t e u f v = let k = ap is_finite_type e ∙ f in ((ap is_unsigned e ∙ u, finite_plain types a k), (k, v))
 
@@ -101,7 +102,7 @@ module _ (types : Types) (c : Called) (n : ℕ) (sc : Scope) (g : Agrees types n
   choices_parts [] h = tt
   choices_parts (p ∷ ps) h = ((weight_nonnegative p.0, value_fits types n sc g p.1 t (types x) d h.0), choices_parts ps h.1)
 
-  -- the target of a flip is a Bool, and its probability is a weight literal or of the right type
+  -- The target of a flip is a Bool, and its probability is a weight literal or of the right type.
   flip_target : (b : Bool) → mismatches (if b then Some ValueType.truth else None) t ≡ false → (types x ≡ Ty.Bool) × (b ≡ true)
   flip_target true m = (truth_fits t (types x) d m, refl)
   flip_target false m = absurd (cc)

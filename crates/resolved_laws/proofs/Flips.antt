@@ -1,4 +1,5 @@
--- What a flip becomes: a draw where its probability is a weight literal, else a toss.
+-- The act of a flip: a draw if its probability is a weight literal, otherwise a flip with a
+-- formula.
 use Rattle.heyvl_acts.specs.Acts.{Act}
 use Rattle.heyvl_acts.specs.Tosses.{flip_parts}
 use Rattle.heyvl_num.specs.Rational.{Rational}
@@ -18,10 +19,10 @@ module _ (P : Act → Type 0) where
   either false x w f s d t = t refl
 
   module _ (n : ℕ) (sc : Scope) (x : ℕ) (p : Expression) (s : Span) where
-    -- What holds of the one or of the other.
+    -- A property, by the kind of the probability.
     pub by_flip : (is_weight_literal (weight p) ≡ true → P (Act.draw x (flip_parts (weight_value (weight p))) s)) → (is_weight_literal (weight p) ≡ false → P (Act.toss x (form (elaborate n sc p)) s)) → P (flip_act n sc x p s)
     by_flip d t = either (is_weight_literal (weight p)) x (weight_value (weight p)) (form (elaborate n sc p)) s d t
 
-    -- What holds of both.
+    -- A property of both acts.
     pub of_flip : P (Act.draw x (flip_parts (weight_value (weight p))) s) → P (Act.toss x (form (elaborate n sc p)) s) → P (flip_act n sc x p s)
     of_flip d t = by_flip (λ l. d) (λ l. t)

@@ -1,4 +1,4 @@
--- What an expression becomes of which nothing is found where a formula or a condition is asked for.
+-- The elaborated expression of one without findings, where a formula or a condition is demanded.
 use Rattle.heylo_formula.specs.Typing.{IsFormula, Types, is_well_typed}
 use Rattle.heylo_formula.specs.Variables.{IsOver}
 use Rattle.heylo_formula.specs.Binders.{has_binder}

@@ -1,4 +1,4 @@
--- What is known of a procedure against which nothing is found: its parts, its limits, and the types of its scopes.
+-- A procedure without findings: its parts, its limits, and the types of its scopes.
 use Rattle.heylo_formula.specs.Typing.{types_in}
 use Rattle.heylo_formula.specs.declared.types.Ty.{Ty}
 use Rattle.heyvl_acts.specs.Acts.{Variable, acts_in, type_list, variables}
@@ -24,7 +24,7 @@ use Rattle.typed_expressions.specs.Scopes.{Scope, is_visible}
 use Rattle.typed_expressions.specs.Signatures.{Called}
 use Rattle.typed_expressions.specs.Table.{declarable}
 
--- Nothing is found in any part of a procedure.
+-- No part of the procedure has findings.
 pub record IsClean (c : Called) (p : Procedure) : Type 0 where
   pub noted : (is_wlp p.note && p.co) ≡ false
   pub inputs : parameters_findings 0 [] p.inputs ≡ []
@@ -64,7 +64,7 @@ all_clean c names (p ∷ ps) e = (
 pub length_parameters : (qs : List Param) → length (parameters qs) ≡ length qs
 length_parameters qs = length-map qs (λ q. declared q.name q.ty)
 
--- A procedure isn't too large in any way.
+-- The procedure is within all limits.
 record IsSmall (c : Called) (p : Procedure) : Type 0 where
   parameters : nat_lt 16 (arity p) ≡ false
   variables : nat_lt 256 (first_quantified p + length (fronts_variables p.posts)) ≡ false
@@ -97,7 +97,7 @@ module _ (c : Called) (p : Procedure) (k : IsClean c p) where
 
 -- ---- Scopes
 
--- Behind parameters the scope agrees with a list of variables in which they stand.
+-- The scope after parameters agrees with a list of variables that has them.
 agrees_behind : (vs : List Variable) (n k : ℕ) (sc : Scope) (qs : List Param) → k ≡ n + length qs → Agrees (types_in (type_list vs)) n sc → Stands vs n (parameters qs) → parameters_findings n sc qs ≡ [] → Agrees (types_in (type_list vs)) k (behind_parameters n sc qs)
 agrees_behind vs n k sc [] h g s e = agrees_up n k sc (omega arith) g
 agrees_behind vs n k sc (q ∷ qs) h g s e =
@@ -118,7 +118,8 @@ module _ (c : Called) (p : Procedure) (k : IsClean c p) (vs : List Variable) whe
       let o = stands_at vs _ (length p.inputs) (parameters p.outputs) (let l = length_parameters p.inputs in omega (arith, l)) (stands_back vs 0 (parameters p.inputs) (parameters p.outputs) s) in
       agrees_behind vs (length p.inputs) (arity p) (input_scope p) p.outputs (omega arith) (inputs_agree i) o k.outputs
 
--- In the whole list of variables stand the parameters from 0 on, and then the locals of the body.
+-- In the list of all variables, the parameters are at the indices from 0 on, and the local
+-- variables of the body after them.
 module _ (c : Called) (p : Procedure) where
   pub head_stands : Stands (variables (typed c p)) 0 (parameters p.inputs ++ parameters p.outputs)
   head_stands = record { before = []; behind = locals_of_body p.body ++ fronts_variables p.posts; whole = sym (append_assoc (parameters p.inputs) (parameters p.outputs) (locals_of_body p.body ++ fronts_variables p.posts)); number = refl }

@@ -1,10 +1,9 @@
--- What holds of each of a list, and of each act in the order of the text.
+-- Properties of each element of a list, and of each act in the order of the text.
 use Rattle.heyvl_acts.specs.Acts.{Act, Acts, join}
 use Rattle.heyvl_acts.specs.Places.{in_order, inside}
 use Rattle.heyvl_acts.specs.Rules.{Each}
 use Rattle.std.proofs.Common.{List, [], append_assoc, refl, subst, sym, ◌∷◌, ◌++◌, ◌≡◌}
 
--- The acts of two lists, one after the other.
 pub in_order_join : (a b : Acts) → in_order (join a b) ≡ in_order a ++ in_order b
 in_order_join Acts.done b = refl
 in_order_join (Acts.next x more) b = rw (in_order_join more b, append_assoc) refl
@@ -22,10 +21,10 @@ module _ {A : Type 0} (P : A → Type 0) where
   each_back [] ys p = p
   each_back (x ∷ xs) ys p = each_back xs ys p.1
 
--- What holds of each act of a list and of another holds of each of both.
+-- Properties of each act of two lists.
 pub each_join : (P : Act → Type 0) (a b : Acts) → Each P (in_order a) → Each P (in_order b) → Each P (in_order (join a b))
 each_join P a b p q = subst (Each P) (sym (in_order_join a b)) (each_both P (in_order a) (in_order b) p q)
 
--- What holds of each act of a list that is an act alone.
+-- Properties of each act of a list of one act.
 pub each_one : (P : Act → Type 0) (a : Act) → P a → Each P (inside a) → Each P (in_order (Acts.next a Acts.done))
 each_one P a p q = (p, each_both P (inside a) [] q tt)

@@ -1,4 +1,4 @@
--- Where variables stand in the list of a procedure's variables, and their types there.
+-- The indices of variables in the list of a procedure's variables, and their types.
 use Rattle.heylo_formula.specs.Typing.{types_in}
 use Rattle.heylo_formula.specs.declared.types.Ty.{Ty}
 use Rattle.heyvl_acts.specs.Acts.{Variable, type_list}
@@ -12,7 +12,7 @@ use Rattle.typed_expressions.specs.Scopes.{Scope, find, with_local}
 use Rattle.typed_expressions.specs.Table.{declarable}
 use Rattle.typed_expressions.specs.declared.scopes.Local.{Local}
 
--- The variables stand in the list from this number on.
+-- The variables `ls` are in the list `vs` from the index `n` on.
 pub record Stands (vs : List Variable) (n : ℕ) (ls : List Variable) : Type 0 where
   pub before : List Variable
   pub behind : List Variable
@@ -45,11 +45,10 @@ type_there : (before : List Variable) (v : Variable) (behind : List Variable) �
 type_there [] v behind = refl
 type_there (w ∷ before) v behind = type_there before v behind
 
--- The type at the number is that of the first of them.
+-- The type at the index `n` is that of the first of them.
 pub type_at : (vs : List Variable) (n : ℕ) (v : Variable) (ls : List Variable) → Stands vs n (v ∷ ls) → types_in (type_list vs) n ≡ v.ty
 type_at vs n v ls h = rw (h.number, h.whole) (type_there h.before v (ls ++ h.behind))
 
--- All of them are in the list.
 pub stands_within : (vs : List Variable) (n : ℕ) (ls : List Variable) → Stands vs n ls → n + length ls ≤ length vs
 stands_within vs n ls h = let e = h.number in let w = ap length h.whole in omega (arith, length-append h.before (ls ++ h.behind), length-append ls h.behind)
 
@@ -58,7 +57,7 @@ stands_within vs n ls h = let e = h.number in let w = ap length h.whole in omega
 pub agrees_up : {types : ℕ → Ty} (n k : ℕ) (sc : Scope) → n ≤ k → Agrees types n sc → Agrees types k sc
 agrees_up n k sc h g = record { declared = g.declared; below = λ x l e. let i = g.below x l e in omega (arith, i) }
 
--- The scope with one variable more, of its declared type.
+-- The scope with one more variable of its declared type.
 pub agrees_with : {types : ℕ → Ty} (n k : ℕ) (sc : Scope) (x : List ℕ) (t : TypeName) → n < k → declarable t ≡ Some (types n) → Agrees types n sc → Agrees types k (with_local x (record { number = n; ty = t }) sc)
 agrees_with {types} n k sc x t i d h = record { declared = λ y m e. p y m (found_with x _ sc y m e); below = λ y m e. q y m (found_with x _ sc y m e) }
   where
@@ -70,7 +69,7 @@ agrees_with {types} n k sc x t i d h = record { declared = λ y m e. p y m (foun
     q y m (inl e) = let j : n ≡ m.number = ap (λ l. l.number) e in omega (arith, j, i)
     q y m (inr e) = let j = h.below y m e in omega (arith, j, i)
 
--- A type that may be declared is that of the variable.
+-- The type of a variable with a declarable type.
 pub type_declared : (o : Option Ty) (ty : Ty) → ty ≡ type_or_bool o → is_none o ≡ false → o ≡ Some ty
 type_declared None ty e h = absurd (cc)
 type_declared (Some u) ty e h = ap Some (sym e)

@@ -1,4 +1,4 @@
--- Each loop of a typed body meets the rules of loops.
+-- Each loop of a typed body satisfies the rules of loops.
 use Rattle.heyvl_syntax.specs.Expressions.{Expression}
 use Rattle.heyvl_syntax.specs.Statements as text
 use Rattle.heyvl_syntax.specs.Statements.{Block, LoopRule, RightSide, Statement}
@@ -34,7 +34,7 @@ use Rattle.std.specs.Int.Signed.{le_z}
 use Rattle.std.specs.List.{list_any}
 use Rattle.std.specs.Prelude.{if◌then◌else◌, length, not, pos, unsigned_abs, ◌&&◌}
 
--- ---- What may stand under a ranking
+-- ---- Bodies of loops with a ranking
 
 abbrev Rankable : Act → Type 0
 Rankable a = is_rankable a ≡ true
@@ -79,13 +79,13 @@ module _ (h : Setting) (called : Called) where
     rankable_arms n m sc (text.Arms.arm g b more) u =
         each_both Rankable _ _ (rankable_block n m sc b (and_parts _ _ u).0) (rankable_arms (n + length (locals_of_block b)) (m + loops_of_block b) sc more (and_parts _ _ u).1)
 
--- ---- What stands in a loop
+-- ---- Bodies of all loops
 
--- An act that is no check against the direction.
+-- An act that is not a check against the direction.
 abbrev Along : Bool → Act → Type 0
 Along co a = is_against co a ≡ false
 
--- Where a quantifier stands behind all acts, none of them is against the direction.
+-- If the post has a quantifier, no act is a check against the direction.
 all_along : (co : Bool) (acts : List Act) → NothingBindsBehind co true acts → Each (Along co) acts
 all_along co [] p = tt
 all_along co (a ∷ rest) p = (false_from_ne_true (is_against co a) (λ e. let w : true ≡ false = p.0 e in cc), all_along co rest p.1)
@@ -95,7 +95,7 @@ along_block h called n m sc b f =
     let acts = in_order (block_acts h called n m sc b) in
     all_along h.co acts (subst (NothingBindsBehind h.co true) (append-nil acts) (behind_block h called true true n m sc b [] f (λ e. absurd (cc)) tt))
 
--- ---- Numbers of copies and rankings
+-- ---- Numbers of copies, and rankings
 
 pub record IsFew (k : ℕ) : Type 0 where
   pub some : 1 ≤ k
@@ -139,7 +139,7 @@ implied false b k e = absurd (cc)
 
 -- ---- All loops
 
--- A procedure, with what its statements have to know of it.
+-- A procedure and its setting.
 module _ (p : TypedProcedure) (h : Setting) (called : Called) (co : p.co ≡ h.co) where
   meets_assigned : (n : ℕ) (sc : Scope) (xs : List ℕ) (r : RightSide) (s : Span) → LoopsMeet p (assigned called n sc xs r s)
   meets_assigned n sc xs (RightSide.plain e) s = tt

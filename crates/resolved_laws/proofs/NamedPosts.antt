@@ -1,4 +1,4 @@
--- The binders of a post are named after variables of the procedure: those of the fronts of its post clauses.
+-- The binders of a post are named after the variables of the leading quantifiers of its clauses.
 use Rattle.heylo_formula.proofs.exported.BinderNames.{unnamed}
 use Rattle.heylo_formula.specs.BinderNames.{Binder, binders}
 use Rattle.heylo_formula.specs.Formula.{Form}
@@ -60,7 +60,7 @@ module _ (k : ℕ) where
       go true i = become IsNamedMeaning _ m i (l, h)
       go false i = never m i
 
-  -- The variables of the front are below k, and so is the name of each binder.
+  -- The variables of the leading quantifiers are below `k`, and so is the name of each binder.
   becomes_named : (f : Front) (d : Demand) (n : ℕ) (sc : Scope) (e : Expression) (m : Meaning) → n + length (front_variables e) ≤ k → findings f d n sc e ≡ [] → elaborate n sc e ≡ Some m → IsNamedMeaning m
   becomes_named f d n sc (Expression.bound up x t a s) m l h e =
       let i = given_some (elaborate (suc n) (with_local x (record { number = n; ty = t }) sc) a) (quantified up n t) m e in
@@ -82,7 +82,7 @@ module _ (k : ℕ) where
         each_named f (n + length (front_variables e)) sc es (omega (arith, l, both)) (back_none _ _ h),
       )
 
--- The parameters, the locals of the body and the variables of the fronts.
+-- The parameters, the local variables of the body and the variables of the leading quantifiers.
 all_variables : (c : Called) (p : Procedure) → first_quantified p + length (fronts_variables p.posts) ≤ length (variables (typed c p))
 all_variables c p =
     let a = length-append (parameters p.inputs) (parameters p.outputs ++ (locals_of_body p.body ++ fronts_variables p.posts)) in

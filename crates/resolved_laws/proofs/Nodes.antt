@@ -1,4 +1,4 @@
--- The rules of an expression's own node, where nothing is found against the expression.
+-- The rules at the node of an expression without findings.
 use Rattle.heyvl_syntax.specs.Expressions.{Expression}
 use Rattle.static_rules.proofs.exported.Findings.{all_kept, back_none}
 use Rattle.std.proofs.Common.{None, Option, Some, false, refl, true, ◌≡◌, ◌∷◌, [], ℕ}
@@ -9,7 +9,7 @@ use Rattle.typed_expressions.specs.TypedExpressions.{divides_wrong, elaborate, f
 use Rattle.typed_expressions.specs.declared.demands.Demand.{Demand}
 use Rattle.typed_expressions.specs.declared.demands.Front.{Front}
 
--- Each rule of the node is kept.
+-- No rule of the node is broken.
 pub record NodeKept (f : Front) (d : Demand) (n : ℕ) (sc : Scope) (e : Expression) : Type 0 where
   pub known : is_unknown sc e ≡ false
   pub new : is_given_twice sc e ≡ false
@@ -22,7 +22,7 @@ own_kept f d n sc e h =
     let k = all_kept (place e) ((10, is_unknown sc e) ∷ (11, is_given_twice sc e) ∷ (12, lacks d (elaborate n sc e)) ∷ (16, divides_wrong e) ∷ (23, is_misplaced f e) ∷ []) h in
     record { known = k.0; new = k.1.0; meets = k.1.1.0; divides = k.1.1.1.0; placed = k.1.1.1.1.0 }
 
--- Behind what is found in the parts stand the node's own rules.
+-- The findings at the node come after those in its parts.
 pub node_kept : (f : Front) (d : Demand) (n : ℕ) (sc : Scope) (e : Expression) → findings f d n sc e ≡ [] → NodeKept f d n sc e
 node_kept f d n sc (Expression.number v s) h = own_kept f d n sc _ h
 node_kept f d n sc (Expression.truth b s) h = own_kept f d n sc _ h
@@ -36,7 +36,7 @@ node_kept f d n sc (Expression.binary op a b s) h = own_kept f d n sc (Expressio
 node_kept f d n sc (Expression.choice a b c s) h = own_kept f d n sc (Expression.choice a b c s) (back_none _ _ h)
 node_kept f d n sc (Expression.bound up x t a s) h = own_kept f d n sc (Expression.bound up x t a s) (back_none _ _ h)
 
--- What doesn't lack what is asked for is something that meets it.
+-- An elaborated expression that satisfies the demand.
 pub record Meeting (d : Demand) (o : Option Meaning) : Type 0 where
   pub meaning : Meaning
   pub is : o ≡ Some meaning

@@ -23,7 +23,6 @@ numbers_append [] ys = refl
 numbers_append (Act.loop h b ∷ rest) ys = ap (λ r. h.number ∷ r) (numbers_append rest ys)
 numbers_append (a ∷ rest) ys = numbers_append rest ys
 
--- Numbers in a row, and then the numbers behind them.
 pub counted_more : (m a b : ℕ) → counted m (a + b) ≡ counted m a ++ counted (m + a) b
 counted_more m zero b = ap (λ k. counted m k) (omega arith) ∙ ap (λ k. counted k b) (omega arith)
 counted_more m (suc a) b = ap (λ k. counted m k) (further a b) ∙ (ap (λ r. m ∷ r) (counted_more (suc m) a b) ∙ ap (λ k. m ∷ (counted (suc m) a ++ counted k b)) (moved m a))
@@ -34,7 +33,7 @@ counted_more m (suc a) b = ap (λ k. counted m k) (further a b) ∙ (ap (λ r. m
     moved : (m a : ℕ) → suc m + a ≡ m + suc a
     moved m a = omega arith
 
--- Lists of acts in a row, of which each numbers its loops from where the one before it ends.
+-- Two lists of acts, of which the second numbers its loops on from the first.
 row : (m a b : ℕ) (xs ys : List Act) → loop_numbers xs ≡ counted m a → loop_numbers ys ≡ counted (m + a) b → loop_numbers (xs ++ ys) ≡ counted m (a + b)
 row m a b xs ys p q = numbers_append xs ys ∙ (ap (λ r. r ++ loop_numbers ys) p ∙ (ap (λ r. counted m a ++ r) q ∙ sym (counted_more m a b)))
 
@@ -53,7 +52,6 @@ none_havocked : (sc : Scope) (co : Bool) (xs : List (List ℕ)) (s : Span) → l
 none_havocked sc co [] s = refl
 none_havocked sc co (x ∷ xs) s = none_havocked sc co xs s
 
--- The first of them, and then those behind it.
 first_number : (m k : ℕ) → m ∷ counted (suc m) k ≡ counted m (1 + k)
 first_number m k = ap (λ j. counted m j) (one_more k)
   where

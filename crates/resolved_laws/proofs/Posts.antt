@@ -29,6 +29,5 @@ plain_forms n sc [] q = tt
 plain_forms n sc (e ∷ es) q =
     (plain_form (elaborate n sc e) (λ m i. becomes_plain n sc e m (or_parts _ _ q).0 i), plain_forms (n + length (front_variables e)) sc es (or_parts _ _ q).1)
 
--- The post of a procedure without quantifiers in its post clauses.
 pub plain_post : (co : Bool) (n : ℕ) (sc : Scope) (es : List Expression) → list_any has_quantifier es ≡ false → has_binder (clause co (post_forms n sc es)) ≡ false
 plain_post co n sc es q = clause_holds (λ f. has_binder f ≡ false) plain_join co (post_forms n sc es) (plain_forms n sc es q)

@@ -1,4 +1,5 @@
--- An expression in which no quantifier may stand has none, and becomes what has no binder.
+-- An expression without findings at a place without quantifiers has none, and is elaborated without
+-- binders.
 use Rattle.heylo_formula.specs.Binders.{has_binder, has_binder_in}
 use Rattle.heyvl_syntax.specs.Expressions.{Expression}
 use Rattle.heyvl_syntax.specs.declared.types.TypeName.{TypeName}
@@ -58,7 +59,7 @@ binders_spread = record {
   ite = λ g h k p q r. rw (p, q, r) refl;
 }
 
--- What an expression becomes has no binder.
+-- The elaborated expression has no binder.
 abbrev pub IsPlain : Meaning → Type 0
 IsPlain m = Fails has_binder has_binder_in m
 

@@ -1,4 +1,4 @@
--- The rules of a statement with a right side, where nothing is found against it.
+-- The rules of a statement with a right side and without findings.
 use Rattle.heyvl_syntax.specs.Statements.{RightSide}
 use Rattle.heyvl_places.specs.declared.spans.Span.{Span}
 use Rattle.heyvl_syntax.specs.declared.types.TypeName.{TypeName}
@@ -14,7 +14,8 @@ use Rattle.std.proofs.Common.{Bool, List, Option, Some, [], false, ◌∷◌, �
 use Rattle.std.proofs.lemmas.Bool.{or_parts}
 use Rattle.std.specs.Option.{is_none}
 
--- For targets of these declared types, what a right side gives fits, as do its numbers and its literals.
+-- For targets of these declared types, the value of the right side fits, and so do its numbers and
+-- its literals.
 pub record RightKept (c : Called) (n : ℕ) (sc : Scope) (ts : List (Option TypeName)) (r : RightSide) : Type 0 where
   pub known : calls_unknown c r ≡ false
   pub matches : right_mismatches c n sc r ts ≡ false

@@ -1,4 +1,4 @@
--- Typed acts read visible variables alone.
+-- Typed acts read only visible variables.
 use Rattle.heyvl_acts.specs.Acts.{Acts, acts_in, join}
 use Rattle.heyvl_acts.specs.Rules.{Each}
 use Rattle.heyvl_acts.specs.Tosses.{flip_parts}
@@ -30,11 +30,11 @@ use Rattle.typed_expressions.specs.Signatures.{Called}
 use Rattle.typed_expressions.specs.Values.{terms}
 use Rattle.typed_expressions.specs.declared.scopes.Local.{Local}
 
--- What is visible is what the scope holds.
+-- The visible variables are those of the scope.
 abbrev pub Mirrors : Visible → Scope → Type 0
 Mirrors v sc = (y : ℕ) → v y ≡ among (numbers sc) y
 
--- ---- What acts show
+-- ---- The variables that acts make visible
 
 abbrev shown_after : Acts → Visible → Visible
 shown_after Acts.done v = v
@@ -44,7 +44,7 @@ scoped_join : (a b : Acts) (v : Visible) → Scoped v a → Scoped (shown_after 
 scoped_join Acts.done b v p q = q
 scoped_join (Acts.next a more) b v p q = (p.0, scoped_join more b (shown_by a v) p.1 q)
 
--- A visible variable is visible still.
+-- A visible variable remains visible.
 same_shown : (v : Visible) (sc : Scope) (x : ℕ) → Mirrors v sc → among (numbers sc) x ≡ true → Mirrors (shown x v) sc
 same_shown v sc x p e y = go (x == y) refl
   where
@@ -52,7 +52,7 @@ same_shown v sc x p e y = go (x == y) refl
     go true i = sym (ap (λ k. among (numbers sc) k) (sym (eqb-true x y i)) ∙ e)
     go false i = p y
 
--- Each of these is one of the scope's.
+-- All variables of the list are in the scope.
 abbrev AllAmong : Scope → List ℕ → Type 0
 AllAmong sc [] = Unit {0}
 AllAmong sc (x ∷ xs) = (among (numbers sc) x ≡ true) × AllAmong sc xs
@@ -87,7 +87,7 @@ known_targets : (sc : Scope) (xs : List (List ℕ)) → any_unknown sc xs ≡ fa
 known_targets sc [] e = tt
 known_targets sc (x ∷ xs) e = (known_target sc x (or_parts _ _ e).0, known_targets sc xs (or_parts _ _ e).1)
 
--- The one target of a right side that is no call.
+-- The one target of a right side other than a call.
 one_target : (sc : Scope) (xs : List (List ℕ)) → any_unknown sc xs ≡ false → not (length (types_of_names sc xs) == 1) ≡ false → among (numbers sc) (first_or_zero (targets sc xs)) ≡ true
 one_target sc [] e i = absurd (cc)
 one_target sc (x ∷ xs) e i = known_target sc x (or_parts _ _ e).0
@@ -137,7 +137,7 @@ module _ (v : Visible) (sc : Scope) (p : Mirrors v sc) where
   ranking_sees n (LoopRule.invariant i s ∷ rs) = ranking_sees n rs
   ranking_sees n (LoopRule.k_induction k i s ∷ rs) = ranking_sees n rs
 
--- ---- What is visible behind an assignment
+-- ---- The visible variables after an assignment
 
 module _ (h : Setting) (called : Called) where
   shown_by_assigned : (n : ℕ) (sc : Scope) (v : Visible) (xs : List (List ℕ)) (r : RightSide) (s : Span) → at s (assign_rules h called n sc xs r) ≡ [] → Mirrors v sc → Mirrors (shown_by (assigned called n sc (targets sc xs) r s) v) sc
@@ -161,7 +161,8 @@ module _ (h : Setting) (called : Called) where
   shown_by_new n sc v x t (RightSide.choose parts) s i p = new_shown v sc x (record { number = n; ty = t }) p i
   shown_by_new n sc v x t (RightSide.call q arguments) s i p = new_shown v sc x (record { number = n; ty = t }) p i
 
-  -- Acts that read visible variables alone, and what is visible behind them.
+  -- The acts read only visible variables, and the scope `sc` holds those that are visible after
+  -- them.
   record Reads (v : Visible) (acts : Acts) (sc : Scope) : Type 0 where
     scoped : Scoped v acts
     after : Mirrors (shown_after acts v) sc

@@ -1,4 +1,4 @@
--- Forms, conditions and terms that expressions become read visible variables alone.
+-- The formulas, conditions and terms of expressions read only visible variables.
 use Rattle.heylo_formula.specs.Variables.{is_free, is_free_in}
 use Rattle.heyvl_acts.specs.Visible.{Sees, SeesCond, SeesTerm, Visible, among}
 use Rattle.heyvl_syntax.specs.Expressions.{Expression}
@@ -17,7 +17,6 @@ use Rattle.typed_expressions.specs.declared.scopes.Local.{Local}
 same_number : (n : ℕ) → (n == n) ≡ true
 same_number n = grind arith
 
--- A variable that a name finds is one of the scope's.
 pub found_among : (sc : Scope) (x : List ℕ) (l : Local) → find sc x ≡ Some l → among (numbers sc) l.number ≡ true
 found_among [] x l e = absurd (cc)
 found_among (f ∷ fs) x l e = go (bytes_eq x f.0) (found_among fs x l) e
@@ -26,7 +25,7 @@ found_among (f ∷ fs) x l e = go (bytes_eq x f.0) (found_among fs x l) e
     go true r h = or_left _ _ (ap (λ k. k.number == l.number) (some_is f.1 l h) ∙ same_number l.number)
     go false r h = or_right _ _ (r h)
 
--- A variable that isn't one of the scope's is found by no name.
+-- No name finds a variable that is not in the scope.
 hidden : (sc : Scope) (y : ℕ) → among (numbers sc) y ≡ false → IsHidden y sc
 hidden sc y h x l i = ne_eqb y l.number (λ e. let f = found_among sc x l i in let g = ap (λ k. among (numbers sc) k) e in absurd (cc))
 
@@ -38,7 +37,7 @@ module _ (sc : Scope) (v : Visible) (p : (y : ℕ) → among (numbers sc) y ≡ 
       go true j = p y j
       go false j = let k = q j in absurd (cc)
 
-  -- What this may become doesn't have variables free that aren't the scope's.
+  -- All free variables of the elaborated expression are in the scope.
   abbrev Within : Option Meaning → Type 0
   Within o = (m : Meaning) → o ≡ Some m → (y : ℕ) → among (numbers sc) y ≡ false → IsWithout y m
 

@@ -1,4 +1,4 @@
--- How large the forms, conditions and terms of typed acts are, by the expressions that they come from.
+-- The sizes of the formulas, conditions and terms of typed acts, by their expressions.
 use Rattle.heylo_formula.specs.Sizes.{nodes, nodes_in, nodes_in_term}
 use Rattle.heylo_formula.specs.Typing.{Types}
 use Rattle.heyvl_num.specs.Rational.{Rational, ratio}

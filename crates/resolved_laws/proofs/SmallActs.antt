@@ -1,4 +1,5 @@
--- Each act of a body has forms and conditions that are small against the expressions of the body.
+-- The formulas and conditions of each act of a body are small compared with the expressions of the
+-- body.
 use Rattle.heyvl_acts.specs.Acts.{Act, Acts, Variable}
 use Rattle.heyvl_acts.specs.FormSizes.{ActWithin, GuardsWithin}
 use Rattle.heyvl_acts.specs.Places.{in_order, inside_arms}
@@ -23,7 +24,6 @@ use Rattle.std.specs.Prelude.{length, ◌||◌}
 use Rattle.typed_expressions.specs.Scopes.{Scope}
 use Rattle.typed_expressions.specs.Signatures.{Called}
 
--- So many nodes are at most twice as many as these, and one more.
 abbrev Holds : ℕ → ℕ → Type 0
 Holds most nodes = 2 * nodes + 1 ≤ most
 

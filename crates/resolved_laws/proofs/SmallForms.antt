@@ -1,4 +1,4 @@
--- The forms and conditions of a typed procedure are small against its expressions.
+-- The formulas and conditions of a typed procedure are small compared with its expressions.
 use Rattle.heylo_formula.specs.Formula.{Form}
 use Rattle.heylo_formula.specs.Sizes.{nodes}
 use Rattle.heylo_formula.specs.Typing.{Types, types_in}
@@ -28,7 +28,7 @@ use Rattle.typed_expressions.specs.Signatures.{called}
 
 -- ---- Joined clauses
 
--- The nodes of forms, with one more for each.
+-- The nodes of formulas, with one more for each formula.
 total : List Form → ℕ
 total [] = 0
 total (f ∷ fs) = 1 + nodes f + total fs

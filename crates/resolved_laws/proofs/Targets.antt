@@ -1,4 +1,4 @@
--- What is given a value: variables of the procedure that are no inputs, of their declared types.
+-- Targets are variables of the procedure with their declared types, and not inputs.
 use Rattle.heylo_formula.specs.Typing.{Types}
 use Rattle.heyvl_acts.specs.Acts.{TypedProcedure, variables}
 use Rattle.heyvl_acts.specs.Rules.{Each, HasOwnTargets, IsOwn}
@@ -27,7 +27,7 @@ use Rattle.typed_expressions.specs.declared.scopes.Local.{Local}
 
 -- ---- Types
 
--- The variables have these declared types, each with its.
+-- Each variable has its declared type.
 abbrev pub AreOfTypes : Types → List ℕ → List (Option TypeName) → Type 0
 AreOfTypes types [] [] = Unit {0}
 AreOfTypes types [] (t ∷ ts) = ⊥
@@ -43,7 +43,7 @@ targets_typed types n sc g (x ∷ xs) e = let q = or_parts (is_none (find sc x))
     go None i h more = absurd (cc)
     go (Some l) i h more = (g.declared x l i, more)
 
--- One target where one is asked for.
+-- The only target of a statement.
 pub record IsOne (types : Types) (xs : List ℕ) (ts : List (Option TypeName)) : Type 0 where
   pub target : ℕ
   pub ty : TypeName
@@ -89,7 +89,7 @@ module _ (p : TypedProcedure) (h : Setting) (c : Called) (same : h.inputs ≡ le
   one_own [] e q = absurd (omega (arith, e))
   one_own (x ∷ xs) e q = q.0
 
-  -- A right side that is no call has one target.
+  -- A right side other than a call has one target.
   abbrev OneUnlessCall : RightSide → ℕ → Type 0
   OneUnlessCall (RightSide.plain e) k = k ≡ 1
   OneUnlessCall (RightSide.flip q) k = k ≡ 1
@@ -111,7 +111,7 @@ module _ (p : TypedProcedure) (h : Setting) (c : Called) (same : h.inputs ≡ le
   own_assigned n sc xs (RightSide.choose parts) s k q = one_own xs k q
   own_assigned n sc xs (RightSide.call f es) s k q = q
 
-  -- A variable that is declared has the next number.
+  -- A declared variable has the next number.
   own_next : (n : ℕ) (sc : Scope) (x : List ℕ) (t : TypeName) → Known (variables p) h c n sc → Stands (variables p) n (declared x t ∷ []) → IsOwn p n
   own_next n sc x t k l = record {
     no_input = let i = k.inputs in omega (arith, i, same);

@@ -1,4 +1,4 @@
--- The acts of a procedure against which nothing is found are well typed.
+-- The acts of a procedure without findings are well typed.
 use Rattle.heylo_formula.specs.Typing.{Types}
 use Rattle.heyvl_acts.specs.Acts.{TypedProcedure, types_of, variables}
 use Rattle.heyvl_acts.specs.Rules.{CallFits, Each, GuardsFit, IsTypedAct, LoopFits, RankFits}
@@ -46,7 +46,7 @@ use Rattle.typed_expressions.specs.declared.scopes.Local.{Local}
 -- ---- Calls
 
 module _ (c : Called) (rs : List TypedProcedure) (p : TypedProcedure) (n : ℕ) (sc : Scope) (g : Agrees (types_of p) n sc) (xs : List ℕ) (ts : List (Option TypeName)) (a : AreOfTypes (types_of p) xs ts) (es : List Expression) where
-  -- What a call says of the procedure that it names.
+  -- The facts about a called procedure that the rules of a call give.
   record CallKept (t : Signature) : Type 0 where
     arguments : any_argument_mismatches n sc es t.inputs ≡ false
     outputs : any_output_mismatches t.outputs ts ≡ false

@@ -1,5 +1,5 @@
--- Values that fit variables: what an expression becomes whose type doesn't mismatch that of a variable, the outputs of a call, and the
--- parts of a draw.
+-- Values that fit variables: expressions whose type matches, the outputs of a call, and the parts
+-- of a draw.
 use Rattle.heylo_formula.specs.Typing.NumberType.{eureal, int, uint, ureal}
 use Rattle.heylo_formula.specs.Typing.{NumberType, TermFits, Types, fits, is_bool, is_finite_type, join, number_type, widens}
 use Rattle.heylo_formula.specs.declared.types.Ty.{Ty}
@@ -25,7 +25,7 @@ use Rattle.typed_expressions.specs.Values.{term, terms}
 
 -- ---- Types of values
 
--- A truth fits a Bool alone.
+-- A truth value fits only a Bool.
 pub truth_fits : (t : TypeName) (ty : Ty) → declarable t ≡ Some ty → mismatches (Some ValueType.truth) t ≡ false → ty ≡ Ty.Bool
 truth_fits TypeName.Bool ty d h = sym (some_is _ _ d)
 truth_fits TypeName.Int ty d h = absurd (cc)
@@ -34,7 +34,7 @@ truth_fits TypeName.UReal ty d h = absurd (cc)
 truth_fits TypeName.EUReal ty d h = absurd (cc)
 truth_fits TypeName.Real ty d h = absurd (cc)
 
--- A number of this type may be given to a variable of this type.
+-- A number of this type may be assigned to a variable of this type.
 abbrev pub NumberFits : NumberType → Ty → Type 0
 NumberFits u ty = (is_bool ty ≡ false) × (fits (Some u) (number_type ty) ≡ true)
 
@@ -108,7 +108,7 @@ targets_fit p (x ∷ xs) (Some t ∷ ts) (q ∷ qs) a d l h =
     let m = or_parts (mismatches (type_of_name q.ty) t) _ h in
     (output_widens q.ty t _ _ (type_declared (declarable q.ty) _ refl d.0) a.0 m.0, targets_fit p xs ts qs a.1 d.1 (omega (arith, l)) m.1)
 
--- ---- Joins of types
+-- ---- Common types
 
 join_widens : (t u j : NumberType) → join t u ≡ Some j → (widens t j ≡ true) × (widens u j ≡ true)
 join_widens int int j e = subst (λ j. (widens int j ≡ true) × (widens int j ≡ true)) (some_is _ _ e) (refl, refl)
@@ -167,7 +167,7 @@ widens_on eureal uint c h k = absurd (cc)
 widens_on eureal ureal c h k = absurd (cc)
 widens_on eureal eureal c h k = k
 
--- A value of the first type may be given wherever one of the second may.
+-- A value of the first type may be assigned wherever one of the second may.
 abbrev IsWithin : ValueType → ValueType → Type 0
 IsWithin v w = (t : TypeName) → mismatches (Some w) t ≡ false → mismatches (Some v) t ≡ false
 
@@ -221,7 +221,7 @@ module _ (n : ℕ) (sc : Scope) where
   each_within [] v t m h = tt
   each_within (p ∷ ps) v t m h = (fits_within (type_of_expression n sc p.1) v t h.0 m, each_within ps v t m h.1)
 
-  -- Where the join of several expressions' types doesn't mismatch, the type of none does.
+  -- If the common type of several expressions matches, so does the type of each.
   pub choices_fit : (p : Expression × Expression) (ps : List (Expression × Expression)) (t : TypeName) → mismatches (type_of_choices n sc (p ∷ ps)) t ≡ false → Each (λ p. mismatches (type_of_expression n sc p.1) t ≡ false) (p ∷ ps)
   choices_fit p ps t h = go (type_of_choices n sc (p ∷ ps)) refl h
     where

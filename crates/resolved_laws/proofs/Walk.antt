@@ -1,5 +1,6 @@
--- What holds of each act of a procedure in which nothing is found: what holds of the acts that each statement becomes alone, where
--- the scope agrees with the types of the procedure's variables and the statement's own variables stand among them.
+-- A property of each act of a procedure without findings, from the acts of each statement alone.
+-- The scope there agrees with the types of the procedure's variables, and the statement's own
+-- variables are among them.
 use Rattle.heylo_formula.specs.Typing.{types_in}
 use Rattle.heyvl_syntax.specs.Statements.{Block, RightSide, Statement}
 use Rattle.heyvl_syntax.specs.Statements as text
@@ -29,20 +30,21 @@ use Rattle.std.proofs.lemmas.Bool.{or_parts}
 use Rattle.std.specs.Option.{is_none}
 use Rattle.std.specs.Prelude.{◌||◌}
 
--- A declared type may be declared.
+-- The type of a declaration without findings is one that a variable may have.
 pub var_declarable : (h : Setting) (c : Called) (n : ℕ) (sc : Scope) (x : List ℕ) (t : TypeName) (r : Option RightSide) (s : Span) → statement_findings h c false n sc (Statement.var x t r s) ≡ [] → is_none (declarable t) ≡ false
 var_declarable h c n sc x t None s e = (all_kept s (var_rules h c n sc x t None) e).1.0
 var_declarable h c n sc x t (Some r) s e =
     let k = all_kept s (var_rules h c n sc x t (Some r)) (back_none _ _ e) in (or_parts (is_none (declarable t)) _ k.1.1.0).0
 
--- The acts of a list have the property, those inside them aside.
+-- Each act of the list has the property, without the acts inside it.
 abbrev pub Alone : (Act → Type 0) → Acts → Type 0
 Alone P Acts.done = Unit {0}
 Alone P (Acts.next a rest) = P a × Alone P rest
 
 module _ (vs : List Variable) (h : Setting) (c : Called) where
-  -- What is known where the next variable has this number: the visible variables are of their types in the list, the inputs
-  -- have smaller numbers, and the numbers of the scope grow.
+  -- The facts at a statement, where the next variable has the number `n`: the visible variables
+  -- have their types in the list, the inputs have smaller numbers, and the numbers of the scope
+  -- grow.
   pub record Known (n : ℕ) (sc : Scope) : Type 0 where
     pub agrees : Agrees (types_in (type_list vs)) n sc
     pub inputs : h.inputs ≤ n
@@ -66,7 +68,7 @@ module _ (vs : List Variable) (h : Setting) (c : Called) where
   known_behind bound n sc (Statement.pick up a b s) k l e = known_up n _ sc (omega arith) k
   known_behind bound n sc (Statement.loop rules g b s) k l e = known_up n _ sc (omega arith) k
 
-  -- The property holds of the acts that each statement becomes alone.
+  -- The acts of each statement have the property, without the acts inside them.
   abbrev pub Locally : (Act → Type 0) → Type 0
   Locally P = (bound : Bool) (n m : ℕ) (sc : Scope) (s : Statement) → Known n sc → Stands vs n (locals s) → statement_findings h c bound n sc s ≡ [] → Alone P (statement_acts h c n m sc s)
 

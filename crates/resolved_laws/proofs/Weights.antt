@@ -1,4 +1,4 @@
--- The weights of draws against which nothing is found: none is negative, and they add up to 1.
+-- The weights of a draw without findings are not negative and sum to 1.
 use Rattle.heylo_formula.specs.Formula.{Term}
 use Rattle.heyvl_acts.proofs.exported.Tosses.{flips_weigh}
 use Rattle.heyvl_acts.specs.Acts.{Variable}
@@ -60,7 +60,6 @@ quotient_nonnegative n m h z = ratio_nonnegative (n.digits *ℤ pos (10 ^ m.plac
     above (pos (suc d)) e = omega arith
     above (negsuc d) e = omega arith
 
--- The value of a weight isn't negative.
 pub weight_nonnegative : (e : Expression) → zeroʳ ≤ʳ weight_value (weight e)
 weight_nonnegative (Expression.number n s) = go (is_written n) refl
   where
@@ -78,14 +77,12 @@ weight_nonnegative (Expression.binary BinaryOp.Slash (Expression.number n s) (Ex
     go false h = ≤ʳ_refl zeroʳ
 weight_nonnegative e = ≤ʳ_refl zeroʳ
 
--- The step of a ranking is above 0.
 pub step_above : (w : Weight) → not (is_step w) ≡ false → is_over_zero w ≡ false → zeroʳ <ʳ weight_value w
 step_above NotLiteral h z = absurd (cc)
 step_above OverZero h z = absurd (cc)
 step_above TooWide h z = absurd (cc)
 step_above (Value q) h z = record { holds = not-true (leqʳ q zeroʳ) (not-false _ h) }
 
--- A probability is at most 1.
 pub probability_small : (w : Weight) → not (is_probability w) ≡ false → is_over_zero w ≡ false → weight_value w ≤ʳ oneʳ
 probability_small NotLiteral h z = absurd (cc)
 probability_small OverZero h z = absurd (cc)

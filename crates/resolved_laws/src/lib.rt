@@ -1,4 +1,5 @@
-//! Laws of resolved files: the static rules that their typed trees meet, how large their forms are, and that each file has one answer.
+//! Laws of resolved files: their typed trees satisfy the static rules, their formulas are small,
+//! and each file has one answer.
 #![tactic(auto)]
 
 mod laws;
