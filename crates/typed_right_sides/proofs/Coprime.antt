@@ -1,4 +1,5 @@
--- Fractions that are multiplied after each numerator was reduced with the other's denominator: the product is in lowest terms.
+-- The product of two fractions is in lowest terms after each numerator has been reduced with the
+-- other's denominator.
 use Prim.Native.Nat.{◌∣◌}
 use Rattle.heyvl_num.proofs.exported.Exactness.{exact_product_none, exact_product_some}
 use Rattle.heyvl_num.proofs.exported.Rationals.{ratio-*, ratio_den, ratio_num}
@@ -15,7 +16,6 @@ use Rattle.std.proofs.lemmas.Bool.Decides.{nat_tests}
 use Rattle.std.proofs.lemmas.Int.{unsigned_abs-mul}
 use Rattle.std.specs.Prelude.{nat_lt, not, unsigned_abs, ◌&&◌, ◌*ℤ◌}
 
--- What divides a product and has no common divisor with the first factor divides the second.
 divides_second : (a b c d : ℕ) → gcd a c ≡ 1 → d ∣ a * b → d ∣ c → d ∣ b
 divides_second a zero c d e h k = dvd-zero d
 divides_second a (suc b) c d e h k =
@@ -26,7 +26,6 @@ divides_second a (suc b) c d e h k =
 one_of : (d n : ℕ) → d ∣ n → n ≡ 1 → d ≡ 1
 one_of d n h e = let k = rw e at h in eq-one_of_dvd-one k
 
--- A product of two numbers that have no common divisor with a third has none with it.
 coprime_product : (a b c : ℕ) → gcd a c ≡ 1 → gcd b c ≡ 1 → gcd (a * b) c ≡ 1
 coprime_product a b c e f =
     let g = gcd-is (a * b) c in
@@ -35,7 +34,6 @@ coprime_product a b c e f =
 gcd_comm : (a b : ℕ) → gcd a b ≡ 1 → gcd b a ≡ 1
 gcd_comm a b e = let g = gcd-is b a in one_of _ _ ((gcd-is a b).2 _ g.1 g.0) e
 
--- So have divisors of numbers that have none.
 coprime_divisors : (a b c d : ℕ) → c ∣ a → d ∣ b → gcd a b ≡ 1 → gcd c d ≡ 1
 coprime_divisors a b c d h k e = let g = gcd-is c d in one_of _ _ ((gcd-is a b).2 _ (dvd_trans _ g.0 h) (dvd_trans _ g.1 k)) e
 
@@ -49,7 +47,6 @@ den_divides : (a : ℤ) (b : ℕ) → 0 < b → (ratio a b).den ∣ b
 den_divides a b p = divides _ (gcd (unsigned_abs a) b) _ (ap (λ n. n * gcd (unsigned_abs a) b) (ratio_den a b p) ∙ quotient_den (unsigned_abs a) b)
 
 module _ (x y : Rational) where
-  -- The product of parts that are coprime crosswise is in lowest terms.
   product_lowest : gcd (unsigned_abs x.num) y.den ≡ 1 → gcd (unsigned_abs y.num) x.den ≡ 1 → gcd (unsigned_abs (x.num *ℤ y.num)) (x.den * y.den) ≡ 1
   product_lowest e f =
       let a : gcd (x.den * y.den) (unsigned_abs x.num) ≡ 1 = coprime_product _ _ _ (gcd_comm _ _ x.lowest) (gcd_comm _ _ e) in
@@ -64,7 +61,7 @@ positive_product (suc m) (suc n) p q = omega arith
 wide_parts : (m n : ℕ) → (nat_lt m (2 ^ 127) && nat_lt n (2 ^ 127)) ≡ false → not (nat_lt m (2 ^ 62) && nat_lt n (2 ^ 62)) ≡ true
 wide_parts m n h = grind (arith, nat_tests)
 
--- A product that doesn't fit, though its factors were reduced, is too wide in lowest terms.
+-- A product that overflows although its factors were reduced is too wide in lowest terms.
 pub product_is_wide : (x y : Rational) → gcd (unsigned_abs x.num) y.den ≡ 1 → gcd (unsigned_abs y.num) x.den ≡ 1 → product_fits x y ≡ false → is_too_wide (x *ʳ y) ≡ true
 unfolding product_fits ◌*ʳ◌
 product_is_wide x y e f h =

@@ -1,4 +1,4 @@
--- What is found against a flip, and what it becomes, by whether its probability is a weight literal.
+-- The findings in a `flip` and its act, by whether its probability is a weight literal.
 use Rattle.heyvl_acts.specs.Acts.{Act as Plain}
 use Rattle.heyvl_acts.specs.PlainActs.{act_of}
 use Rattle.heyvl_acts.specs.Tosses.{flip_parts}
@@ -24,7 +24,6 @@ use Rattle.typed_right_sides.specs.internal.RightSideRules.{value_rules}
 use Rattle.std.proofs.Common.{Bool, Result, Some, [], false, refl, subst, sym, true, ◌++◌, ◌≡◌, ℕ}
 use Rattle.std.specs.Prelude.{if◌then◌else◌, not}
 
--- What is no weight literal has no divisor that is one.
 no_divisor : (w : Weight) → is_weight_literal w ≡ false → is_over_zero w ≡ false
 no_divisor NotLiteral h = refl
 no_divisor OverZero h = absurd (cc)
@@ -32,7 +31,8 @@ no_divisor TooWide h = refl
 no_divisor (Value q) h = refl
 
 module _ (r : Result A.Act ResolveStop) (n : ℕ) (sc : Scope) (t : Targets) (p : Expression) (s : Span) where
-  -- What a flip gives, of a probability of which it is told whether it is a weight literal, and whether its divisor is 0.
+  -- The answer on a `flip`. The Booleans say whether its probability is a weight literal, and
+  -- whether its divisor is 0.
   abbrev FlipGives : Bool → Bool → Type 0
   FlipGives literal zero = Gives act_of r ((if literal then [] else closed_findings Demand.Any n sc p) ++ at s (value_rules t (flip_type literal (type_of_expression n sc p)) (flip_wrong literal (is_probability (weight p)) (has_variable (form (elaborate n sc p)))) zero)) (draw_or_toss literal (first_or_zero t.numbers.items) (weight_value (weight p)) (form (elaborate n sc p)) s)
 

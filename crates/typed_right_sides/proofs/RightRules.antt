@@ -1,4 +1,4 @@
--- The rules of a statement once the parts of its right side are read are those of its right side.
+-- The rules of a statement whose right side has been read are the rules of its right side.
 use Rattle.heyvl_acts.specs.PlainActs.{act_of}
 use Rattle.heyvl_acts.specs.declared.acts.Act as A
 use Rattle.heyvl_places.specs.declared.spans.Span.{Span}
@@ -25,13 +25,13 @@ use Rattle.typed_expressions.specs.Signatures.{Called, Signature, find_call}
 use Rattle.typed_expressions.specs.Table.{given}
 use Rattle.typed_expressions.specs.declared.stops.ResolveStop.{ResolveStop}
 
--- An answer only depends on what is found.
+-- An answer depends on the findings alone.
 pub gives_same : {A B : Type 0} (v : A → B) (r : Result A ResolveStop) (xs ys : List Finding) (b : B) → ys ≡ xs → Gives v r xs b → Gives v r ys b
 gives_same v r xs ys b e g = subst (λ f. Gives v r f b) (sym e) g
 
--- ---- Right sides that are no calls
+-- ---- Right sides other than calls
 
--- No procedure is missing, and rules that aren't broken tell nothing.
+-- Rules that are not broken add no findings.
 value_at : (s : Span) (u t m i c l z : Bool) → at s ((10, u || false) ∷ (11, t) ∷ (12, m) ∷ (13, i) ∷ (14, c) ∷ (15, l) ∷ (16, z) ∷ (21, false) ∷ (23, false) ∷ []) ≡ at s ((10, u) ∷ (11, t) ∷ (12, m) ∷ (13, i) ∷ (14, c) ∷ (15, l) ∷ (16, z) ∷ [])
 value_at s u t m i c l z = ap (λ b. at s ((10, b) ∷ (11, t) ∷ (12, m) ∷ (13, i) ∷ (14, c) ∷ (15, l) ∷ (16, z) ∷ [])) (or-false u)
 
@@ -46,7 +46,7 @@ choices_join : (n : ℕ) (sc : Scope) (ps : List (Expression × Expression)) →
 choices_join n sc [] = refl
 choices_join n sc (p ∷ ps) = join_choices n sc (type_of_expression n sc p.1) ps
 
--- The type of a choose is the join of the types of its values.
+-- The type of a `choose` is the common type of its values.
 pub choose_rules : (co : Bool) (called : Called) (n : ℕ) (sc : Scope) (t : Targets) (ps : List (Expression × Expression)) (s : Span) → at s (RulesOf co called n sc t (RightSide.choose ps)) ≡ at s (value_rules t (join_all (types_of_choices n sc ps)) (literal_wrong n sc (RightSide.choose ps)) (has_over_zero (RightSide.choose ps)))
 choose_rules co called n sc t ps s = value_at s t.unknown t.twice (t.undeclarable || first_mismatches (type_of_choices n sc ps) t.types.items) t.input (not (length t.types.items == 1)) (literal_wrong n sc (RightSide.choose ps)) (has_over_zero (RightSide.choose ps)) ∙ ap (λ v. at s (value_rules t v (literal_wrong n sc (RightSide.choose ps)) (has_over_zero (RightSide.choose ps)))) (choices_join n sc ps)
 
@@ -73,14 +73,14 @@ calls_rules co called n sc t x es s = call_at s (t.unknown || is_none (find_call
 
 -- ---- Answers
 
--- What a choose gives, with what its parts were read to.
+-- The answer on a `choose`, from those on its parts.
 pub choose_gives : (r : Result A.Act ResolveStop) (co : Bool) (called : Called) (n : ℕ) (sc : Scope) (t : Targets) (right : Right) (xs : List (Expr × Expr)) (all : Vec (Expr × Expr) Global) (s : Span) → right ≡ rights.Choose all → xs ≡ all.items → Gives act_of r (right_findings n sc (RightSide.choose (choices xs)) ++ at s (value_rules t (join_all (types_of_choices n sc (choices xs))) (literal_wrong n sc (RightSide.choose (choices xs))) (has_over_zero (RightSide.choose (choices xs))))) (assigned [] n sc t.numbers.items (RightSide.choose (choices xs)) s) → Gives act_of r (right_findings n sc (right_side right) ++ at s (RulesOf co called n sc t (right_side right))) (assigned called n sc t.numbers.items (right_side right) s)
 choose_gives r co called n sc t right xs all s e i g =
     subst (λ y. Gives act_of r (right_findings n sc (right_side y) ++ at s (RulesOf co called n sc t (right_side y))) (assigned called n sc t.numbers.items (right_side y) s)) (sym e)
     (subst (λ l. Gives act_of r (right_findings n sc (RightSide.choose (choices l)) ++ at s (RulesOf co called n sc t (RightSide.choose (choices l)))) (assigned called n sc t.numbers.items (RightSide.choose (choices l)) s)) i
     (gives_same act_of r _ (right_findings n sc (RightSide.choose (choices xs)) ++ at s (RulesOf co called n sc t (RightSide.choose (choices xs)))) (assigned called n sc t.numbers.items (RightSide.choose (choices xs)) s) (ap (λ f. right_findings n sc (RightSide.choose (choices xs)) ++ f) (choose_rules co called n sc t (choices xs) s)) g))
 
--- What a call gives, with what its arguments were read to.
+-- The answer on a call, from those on its arguments.
 pub call_gives : (r : Result A.Act ResolveStop) (co : Bool) (called : Called) (n : ℕ) (sc : Scope) (t : Targets) (right : Right) (x : List ℕ) (es : List Expr) (all : Vec Expr Global) (s : Span) → right ≡ rights.Call x all → es ≡ all.items → Gives act_of r (right_findings n sc (RightSide.call x (expressions es)) ++ at s (call_rules co t (find_call called x) (types_of n sc (expressions es)))) (assigned called n sc t.numbers.items (RightSide.call x (expressions es)) s) → Gives act_of r (right_findings n sc (right_side right) ++ at s (RulesOf co called n sc t (right_side right))) (assigned called n sc t.numbers.items (right_side right) s)
 call_gives r co called n sc t right x es all s e i g =
     subst (λ y. Gives act_of r (right_findings n sc (right_side y) ++ at s (RulesOf co called n sc t (right_side y))) (assigned called n sc t.numbers.items (right_side y) s)) (sym e)

@@ -1,4 +1,4 @@
--- Fractions that are tested, divided and added as weights: each fits.
+-- Fractions that are tested, divided and added as weights do not overflow.
 use Rattle.heyvl_num.proofs.exported.Rationals.{ratio-*}
 use Rattle.heyvl_num.specs.Exact.{difference_fits, exact_difference, exact_quotient, is_small, quotient, quotient_fits}
 use Rattle.heyvl_num.proofs.exported.Integers.{*ℤ-one, one-*ℤ, zero_times}
@@ -30,7 +30,7 @@ pub at_most_zero_is : (q : Rational) → le_z q.num (pos 0) ≡ leqʳ q zeroʳ
 unfolding leqʳ zeroʳ ratio gcd gcd_steps
 at_most_zero_is q = ap₂ le_z (sym (*ℤ-one q.num)) (sym (zero_times (pos q.den)))
 
--- Parts of fractions as they are handed on.
+-- The parts of a fraction as arguments of 128 bits.
 pub passed_parts : (q : Rational) (a b n : ℤ) (d : ℕ) → FitsSigned w128 a → FitsSigned w128 b → a ≡ n → b ≡ pos d → q ≡ ratio (to_z w128 (of_z w128 a)) (unsigned_abs (to_z w128 (of_z w128 b))) → q ≡ ratio n d
 passed_parts q a b n d f g h k e = e ∙ ap₂ (λ (x : ℤ) (y : ℤ). ratio x (unsigned_abs y)) (to_z-of_z w128 a f ∙ h) (to_z-of_z w128 b g ∙ k)
 

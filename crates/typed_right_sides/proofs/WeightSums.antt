@@ -1,4 +1,4 @@
--- Weights aren't too wide, and so their sums can be written.
+-- Weights are not too wide, so their sums do not overflow.
 use Rattle.heyvl_num.specs.Exact.{exact_sum, is_small, sum_fits}
 use Rattle.heyvl_num.specs.Gcd.{gcd, gcd_steps}
 use Rattle.heyvl_num.specs.Rational.{Rational, ratio, zeroʳ, ◌+ʳ◌}
@@ -36,7 +36,6 @@ narrow_division : (a b : Expression) (s : Span) → is_too_wide (weight_value (w
 narrow_division (Expression.number n s) (Expression.number m t) u = narrow_if (is_written n && is_written m) (weight_of_quotient n m) NotLiteral (narrow_if (is_zero_literal m) OverZero (weight_of_value (literal_quotient n m)) narrow_zero (narrow_value (literal_quotient n m))) narrow_zero
 narrow_division a b u = narrow_zero
 
--- The value of a weight isn't too wide.
 pub narrow_weight : (e : Expression) → is_too_wide (weight_value (weight e)) ≡ false
 narrow_weight (Expression.number n s) = narrow_if (is_written n) (weight_of_value (literal_value n)) NotLiteral (narrow_value (literal_value n)) narrow_zero
 narrow_weight (Expression.binary BinaryOp.Slash a b s) = narrow_division a b s
@@ -62,7 +61,6 @@ sums_fit x y h k =
     sum_small : (u v : ℤ) → unsigned_abs u ≤ 2 ^ 124 → unsigned_abs v ≤ 2 ^ 124 → unsigned_abs (u +ℤ v) < 2 ^ 127
     sum_small u v a b = omega (arith, ints)
 
--- The exact sum of two is their sum.
 pub sum_is : (x y : Rational) → is_too_wide x ≡ false → is_too_wide y ≡ false → exact_sum x y ≡ Some (x +ʳ y)
 unfolding exact_sum
 sum_is x y h k = rw (sums_fit x y h k) refl

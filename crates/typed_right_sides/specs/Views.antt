@@ -1,4 +1,4 @@
--- The plain values of what functions hold in memory.
+-- The plain values of the program's types.
 use Rattle.heylo_formula.specs.declared.forms.Cond as C
 use Rattle.heyvl_acts.specs.Acts.{Acts, Arms}
 use Rattle.heyvl_acts.specs.PlainActs.{acts_of, arms_of}
@@ -9,7 +9,7 @@ use Rattle.std.specs.Prelude.{Vec}
 use Rattle.std.specs.declared.alloc.Global.{Global}
 use Rattle.typed_expressions.specs.Views.{kind_of}
 
--- The type that a type of the program stands for.
+-- The plain value of a type.
 abbrev pub value_type : V.ValueType → ValueType
 value_type V.TheVariants.Truth = ValueType.truth
 value_type (V.TheVariants.Number t) = ValueType.number (kind_of t)

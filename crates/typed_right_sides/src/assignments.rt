@@ -12,7 +12,8 @@ ghost use Rattle.typed_expressions.specs.Answers.{Gives};
 ghost use Rattle.typed_expressions.specs.DeclaredVariables.{type_or_bool};
 ghost use Rattle.typed_expressions.specs.Findings.{at};
 ghost use Rattle.typed_expressions.specs.Names.{any_twice};
-ghost use Rattle.typed_expressions.specs.Scopes.{any_input, any_unknown, is_visible, types_of_names};
+ghost use Rattle.typed_expressions.specs.Scopes.{any_input, any_unknown, is_visible};
+ghost use Rattle.typed_expressions.specs.Scopes.{types_of_names};
 ghost use Rattle.typed_expressions.specs.Table.{declarable};
 
 use crate::right_sides::{Targets, read_right};
@@ -26,7 +27,7 @@ use typed_expressions::{
     Calls, Local, ResolveStop, Scope, any_input, any_twice, any_unknown, declarable, told,
 };
 
-/// The number of a visible variable; 0 for a name that isn't visible.
+/// Returns the number of a visible variable, or 0 for a name that is not visible.
 fn number_or_zero(local: Option<Local>) -> u32
     ensures { result ≡ number_or_zero local }
 {
@@ -36,7 +37,7 @@ fn number_or_zero(local: Option<Local>) -> u32
     }
 }
 
-/// The declared type of a visible variable.
+/// Returns the declared type of a visible variable.
 fn declared_type(local: Option<Local>) -> Option<TypeName>
     ensures { result ≡ option_map (λ found. found.ty) local }
 {
@@ -46,15 +47,18 @@ fn declared_type(local: Option<Local>) -> Option<TypeName>
     }
 }
 
-/// The targets of an assignment to these names.
+/// Returns the targets of an assignment to these names.
 fn assigned_targets(
     alloc: Global,
     setting: Setting,
     scope: &Scope,
     names: &[Name],
 ) -> Result<Targets, AllocError>
-    ensures shown { IfOk result (λ made. (made.types.items ≡ types_of_names scope.now names.now) × (made.numbers.items ≡ targets scope.now names.now)) }
-    ensures asked { IfOk result (λ made. (made.unknown ≡ any_unknown scope.now names.now) × (made.twice ≡ any_twice names.now) × (made.undeclarable ≡ false) × (made.input ≡ any_input setting.inputs scope.now names.now)) }
+    ensures shown { IfOk result (λ made. (made.types.items ≡ types_of_names scope.now names.now)
+        × (made.numbers.items ≡ targets scope.now names.now)) }
+    ensures asked { IfOk result (λ made. (made.unknown ≡ any_unknown scope.now names.now)
+        × (made.twice ≡ any_twice names.now) × (made.undeclarable ≡ false)
+        × (made.input ≡ any_input setting.inputs scope.now names.now)) }
 {
     let mut types = Vec::with_capacity(alloc, names.len())?;
     let mut numbers = Vec::with_capacity(alloc, names.len())?;
@@ -72,7 +76,7 @@ fn assigned_targets(
     })
 }
 
-/// The target that a declaration makes.
+/// Returns the target of a declaration.
 fn declared_target(
     alloc: Global,
     scope: &Scope,
@@ -80,8 +84,11 @@ fn declared_target(
     name: &Name,
     ty: TypeName,
 ) -> Result<Targets, AllocError>
-    ensures shown { IfOk result (λ made. (made.types.items ≡ Some ty ∷ []) × (made.numbers.items ≡ next ∷ [])) }
-    ensures asked { IfOk result (λ made. (made.unknown ≡ false) × (made.twice ≡ is_visible scope.now name.now) × (made.undeclarable ≡ is_none (declarable ty)) × (made.input ≡ false)) }
+    ensures shown { IfOk result (λ made. (made.types.items ≡ Some ty ∷ [])
+        × (made.numbers.items ≡ next ∷ [])) }
+    ensures asked { IfOk result (λ made. (made.unknown ≡ false)
+        × (made.twice ≡ is_visible scope.now name.now)
+        × (made.undeclarable ≡ is_none (declarable ty)) × (made.input ≡ false)) }
 {
     Ok(Targets {
         unknown: false,
@@ -93,7 +100,7 @@ fn declared_target(
     })
 }
 
-/// Any value for a declared variable, or the first fault of its declaration.
+/// Returns the act that gives a declared variable any value, or the first error of its declaration.
 fn read_any(
     setting: Setting,
     scope: &Scope,
@@ -102,14 +109,20 @@ fn read_any(
     ty: TypeName,
     span: Span,
 ) -> Result<Act, ResolveStop>
-    ensures { Gives act_of result (at span ((11, is_visible scope.now name.now) ∷ (12, is_none (declarable ty)) ∷ [])) (any next setting.co (type_or_bool (declarable ty)) span) }
+    ensures { Gives act_of result
+        (at span ((11, is_visible scope.now name.now) ∷ (12, is_none (declarable ty)) ∷ []))
+        (any next setting.co (type_or_bool (declarable ty)) span) }
 {
     let declared = declarable(ty);
     told(span, &[(11, scope.sees(name)), (12, declared.is_none())])?;
     Ok(Act::Any(next, setting.co, declared.unwrap_or(Ty::Bool), span))
 }
 
-/// What a declaration becomes, or the first fault in it. The declared variable has this number.
+/// Returns the act of a declaration, whose variable has the number `next`.
+///
+/// # Errors
+///
+/// `Fault` with the first static error in the statement, or `Memory`.
 pub fn read_var(
     alloc: Global,
     setting: Setting,
@@ -121,7 +134,11 @@ pub fn read_var(
     right: &Option<Right>,
     span: Span,
 ) -> Result<Act, ResolveStop>
-    ensures { Gives act_of result (value_findings next scope.now (optional_right right.now) ++ at span (var_rules setting calls.now next scope.now name.now ty (optional_right right.now))) (declared_act setting calls.now next scope.now ty (optional_right right.now) span) }
+    ensures { Gives act_of result
+        (value_findings next scope.now (optional_right right.now)
+        ++ at span (var_rules setting calls.now next scope.now name.now ty
+        (optional_right right.now)))
+        (declared_act setting calls.now next scope.now ty (optional_right right.now) span) }
 {
     match right {
         None => read_any(setting, scope, next, name, ty, span),
@@ -132,7 +149,11 @@ pub fn read_var(
     }
 }
 
-/// What an assignment becomes, or the first fault in it. The next variable has this number.
+/// Returns the act of an assignment. The next variable has the number `next`.
+///
+/// # Errors
+///
+/// `Fault` with the first static error in the statement, or `Memory`.
 pub fn read_assign(
     alloc: Global,
     setting: Setting,
@@ -143,7 +164,12 @@ pub fn read_assign(
     right: &Right,
     span: Span,
 ) -> Result<Act, ResolveStop>
-    ensures { Gives act_of result (right_findings next scope.now (right_side right.now) ++ at span (assign_rules setting calls.now next scope.now names.now.items (right_side right.now))) (assigned calls.now next scope.now (targets scope.now names.now.items) (right_side right.now) span) }
+    ensures { Gives act_of result
+        (right_findings next scope.now (right_side right.now)
+        ++ at span (assign_rules setting calls.now next scope.now names.now.items
+        (right_side right.now)))
+        (assigned calls.now next scope.now (targets scope.now names.now.items)
+        (right_side right.now) span) }
 {
     let all = assigned_targets(alloc, setting, scope, names)?;
     read_right(alloc, setting.co, calls, scope, next, all, right, span)

@@ -1,10 +1,11 @@
-//! The choices of a choose: weights and values.
+//! The parts of a `choose`: weights and values.
 
 ghost use Rattle.heyvl_num.specs.Rational.{leqʳ, oneʳ, zeroʳ, ◌+ʳ◌};
 ghost use Rattle.heyvl_syntax.specs.Expressions.{expression};
 ghost use Rattle.heyvl_syntax.specs.Statements.{choices};
 ghost use Rattle.typed_expressions.specs.Answers.{Gives, TellsFirst};
-ghost use Rattle.static_rules.specs.Literals.{is_over_zero, is_too_wide, is_usable, sums_wrong, weigh_wrong};
+ghost use Rattle.static_rules.specs.Literals.{is_over_zero, is_too_wide, is_usable, sums_wrong};
+ghost use Rattle.static_rules.specs.Literals.{weigh_wrong};
 ghost use Rattle.static_rules.specs.RightSides.{choices_findings, weight_findings, weights};
 ghost use Rattle.static_rules.specs.StatementActs.{choose_parts};
 ghost use Rattle.typed_right_sides.specs.internal.RightSideParts.{choices_of, types_of_choices};
@@ -23,17 +24,17 @@ use heyvl_syntax::Expr;
 use std::alloc::Global;
 use typed_expressions::{Demand, ResolveStop, Scope, read};
 
-/// Values with their weights in their order, and beside them the types of the values.
+/// The weighted values of a `choose` in their order, and the types of the values.
 #[derive(Drop)]
 pub(crate) struct Choices {
     pub(crate) parts: Vec<(Frac, Term)>,
     pub(crate) types: Vec<Option<ValueType>>,
 }
 
-/// The most choices that a choose may have.
+/// The largest number of values in a `choose`.
 const MAX_CHOICES: usize = 16;
 
-/// The first fault in what stands where a weight is asked for. A weight literal has none.
+/// Returns the first error in a weight. A weight literal has none.
 pub(crate) fn read_weight(
     alloc: Global,
     scope: &Scope,
@@ -49,14 +50,17 @@ pub(crate) fn read_weight(
     Ok(())
 }
 
-/// What choices become, or the first fault in their parts.
+/// Elaborates the parts of a `choose`, or returns the first error in them.
 pub(crate) fn read_choices(
     alloc: Global,
     scope: &Scope,
     next: u32,
     all: &[(Expr, Expr)],
 ) -> Result<Choices, ResolveStop>
-    ensures { Gives choices_of result (choices_findings next scope.now (choices all.now)) (choose_parts next scope.now (choices all.now), types_of_choices next scope.now (choices all.now)) }
+    ensures { Gives choices_of result (choices_findings next scope.now (choices all.now)) (
+      choose_parts next scope.now (choices all.now),
+      types_of_choices next scope.now (choices all.now),
+    ) }
 {
     let mut parts = Vec::with_capacity(alloc, all.len())?;
     let mut types = Vec::with_capacity(alloc, all.len())?;
@@ -69,7 +73,7 @@ pub(crate) fn read_choices(
     Ok(Choices { parts, types })
 }
 
-/// Whether one of the weights is no weight literal, or too wide.
+/// Returns true if one of the weights is not a weight literal, or is too wide.
 fn any_unusable(all: &[(Expr, Expr)]) -> bool
     ensures { result ≡ list_any (λ w. not (is_usable w)) (weights (choices all.now)) }
 {
@@ -81,7 +85,7 @@ fn any_unusable(all: &[(Expr, Expr)]) -> bool
     false
 }
 
-/// Whether one of the weights has 0 as its divisor.
+/// Returns true if one of the weights has the divisor 0.
 pub(crate) fn any_over_zero(all: &[(Expr, Expr)]) -> bool
     ensures { result ≡ list_any is_over_zero (weights (choices all.now)) }
 {
@@ -93,7 +97,7 @@ pub(crate) fn any_over_zero(all: &[(Expr, Expr)]) -> bool
     false
 }
 
-/// The sum, or None where it is too wide.
+/// Returns the sum, or `None` if it is too wide.
 fn sum(left: Frac, right: Frac) -> Option<Frac>
     requires left { is_too_wide left ≡ false }
     requires right { is_too_wide right ≡ false }
@@ -103,14 +107,14 @@ fn sum(left: Frac, right: Frac) -> Option<Frac>
     if is_too_wide(sum) { None } else { Some(sum) }
 }
 
-/// Whether a fraction is 1.
+/// Returns true for 1.
 fn is_one(value: Frac) -> bool
     ensures { result ≡ leqʳ value oneʳ && leqʳ oneʳ value }
 {
     at_most_one(value) && at_least_one(value)
 }
 
-/// Whether the weights don't add up to 1, or the sum of the first ones is too wide.
+/// Returns true if the weights do not sum to 1, or a partial sum is too wide.
 fn sums_wrong(all: &[(Expr, Expr)]) -> bool
     ensures { result ≡ sums_wrong zeroʳ (weights (choices all.now)) }
 {
@@ -124,7 +128,7 @@ fn sums_wrong(all: &[(Expr, Expr)]) -> bool
     !is_one(total)
 }
 
-/// Whether these can't be the weights of a choice.
+/// Returns true if the parts do not have the weights of a choice.
 pub(crate) fn weigh_wrong(all: &[(Expr, Expr)]) -> bool
     ensures { result ≡ weigh_wrong (weights (choices all.now)) }
 {

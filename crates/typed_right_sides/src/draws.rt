@@ -1,4 +1,4 @@
-//! The parts of draws: weights and the values that they belong to.
+//! The parts of draws: weights and their values.
 
 ghost use Rattle.heylo_formula.specs.Formula.Cond.{constant};
 ghost use Rattle.heylo_formula.specs.Formula.Term.{truth};
@@ -9,21 +9,22 @@ ghost use Rattle.heyvl_num.specs.Rational.{oneʳ, ratio, ◌-ʳ◌};
 ghost use Rattle.static_rules.specs.Literals.{ends_wrong, is_too_wide};
 ghost use Rattle.static_rules.specs.StatementActs.{integer_parts, unif_parts, whole_term};
 ghost use Rattle.std.specs.Int.Signed.{le_z};
-ghost use Rattle.std.specs.Prelude.{◌+ℤ◌, ◌+◌, ◌<◌, ◌^◌, ◌≡◌, ◌≤◌, IfOk, Some, false, pos, true, unsigned_abs};
+ghost use Rattle.std.specs.Prelude.{◌+ℤ◌, ◌+◌, ◌<◌, ◌^◌, ◌≡◌, ◌≤◌, IfOk, Some, false, pos, true};
+ghost use Rattle.std.specs.Prelude.{unsigned_abs};
 
 use crate::weights::fraction;
 use heylo_formula::{Cond, Form, Term};
 use heyvl_num::{Ext, Frac};
 use std::alloc::{AllocError, Global};
 
-/// A truth value.
+/// Returns a truth value as a term.
 fn truth(value: bool) -> Term
     ensures { term_of result ≡ truth (constant value) }
 {
     Term::Truth(Cond::Const(value))
 }
 
-/// The whole number as a fraction.
+/// Returns an integer as a fraction.
 fn whole(number: i128) -> Frac
     requires { unsigned_abs number < 2 ^ 127 }
     ensures { result ≡ ratio number 1 }
@@ -31,7 +32,7 @@ fn whole(number: i128) -> Frac
     Frac::new(number, 1).unwrap()
 }
 
-/// The whole number as a term.
+/// Returns an integer as a term.
 fn whole_term(number: i128) -> Term
     requires { unsigned_abs number < 2 ^ 127 }
     ensures { term_of result ≡ whole_term number }
@@ -39,7 +40,7 @@ fn whole_term(number: i128) -> Term
     Term::Num(Form::Const(Ext::Fin(whole(number))))
 }
 
-/// What a probability lacks to 1.
+/// Returns one minus the probability.
 fn complement(probability: Frac) -> Frac
     requires { is_too_wide probability ≡ false }
     ensures { result ≡ oneʳ -ʳ probability }
@@ -47,7 +48,7 @@ fn complement(probability: Frac) -> Frac
     whole(1).sub(&probability).unwrap()
 }
 
-/// True with the probability, then false.
+/// Returns true with the probability, and false with the rest.
 pub(crate) fn flip_parts(alloc: Global, probability: Frac) -> Result<Vec<(Frac, Term)>, AllocError>
     requires { is_too_wide probability ≡ false }
     ensures { IfOk result (λ parts. parts_of parts.items ≡ flip_parts probability) }
@@ -58,7 +59,7 @@ pub(crate) fn flip_parts(alloc: Global, probability: Frac) -> Result<Vec<(Frac, 
     Ok(parts)
 }
 
-/// The weight of each of so many values that are equally likely.
+/// Returns the weight of each of `count` equally likely values.
 fn equal_weight(count: u32) -> Frac
     requires { 1 ≤ count }
     ensures { result ≡ ratio (pos 1) count }
@@ -66,7 +67,7 @@ fn equal_weight(count: u32) -> Frac
     fraction(1, i128::from(count))
 }
 
-/// So many integers from the first one on, each with the same weight.
+/// Returns the `count` integers from `low` on, each with the same weight.
 fn integer_parts(
     alloc: Global,
     weight: Frac,
@@ -84,7 +85,7 @@ fn integer_parts(
     Ok(parts)
 }
 
-/// The integers from the first to the second, each with the same weight.
+/// Returns the integers from `low` to `high`, each with the same weight.
 pub(crate) fn unif_parts(
     alloc: Global,
     low: i128,

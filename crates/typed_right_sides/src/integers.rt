@@ -3,20 +3,21 @@
 ghost use Rattle.heyvl_places.specs.declared.spans.Span.{Span as Place};
 ghost use Rattle.heyvl_syntax.specs.Expressions.{Expression, expression};
 ghost use Rattle.heyvl_syntax.specs.declared.operators.UnaryOp.{UnaryOp as Operator};
-ghost use Rattle.static_rules.specs.Literals.{copies, ends_wrong, integer, is_negative, whole_value};
+ghost use Rattle.static_rules.specs.Literals.{copies, ends_wrong, integer, is_negative};
+ghost use Rattle.static_rules.specs.Literals.{whole_value};
 ghost use Rattle.std.specs.Int.Signed.{le_z};
 ghost use Rattle.std.specs.Prelude.{◌&&◌, ◌-ℤ◌, ◌<◌, ◌^◌, ◌≡◌, IfSome, pos, true, unsigned_abs};
 
 use heyvl_syntax::{Expr, Lit, UnaryOp};
 use typed_expressions::{literal_value, number};
 
-/// The most copies that a loop's body may have.
+/// The largest number of copies of a loop's body.
 const MAX_COPIES: i128 = 16;
 
-/// The most steps from the least to the greatest of a range of integers.
+/// The largest difference between the ends of a range of integers.
 const MAX_STEPS: i128 = 255;
 
-/// The whole number that a literal writes, where it writes one.
+/// Returns the integer that a literal is, if it is one.
 fn whole_value(literal: Lit) -> Option<i128>
     ensures value { result ≡ whole_value literal }
     ensures natural { IfSome result (λ whole. le_z (pos 0) whole ≡ true) }
@@ -29,16 +30,17 @@ fn whole_value(literal: Lit) -> Option<i128>
     }
 }
 
-/// The integer that an expression is with a minus before it, where it is a whole number.
+/// Returns the integer `-e`, if `e` is an integer literal without a minus.
 fn negative(e: &Expr) -> Option<i128>
-    ensures value { (s : Place) → result ≡ integer (Expression.unary Operator.Minus (expression e.now) s) }
+    ensures value { (s : Place)
+        → result ≡ integer (Expression.unary Operator.Minus (expression e.now) s) }
     ensures small { IfSome result (λ whole. unsigned_abs whole < 2 ^ 127) }
 {
     let whole = whole_value(number(e)?)?;
     Some(-whole)
 }
 
-/// The integer literal that an expression is.
+/// Returns the integer literal that an expression is, if it is one.
 pub(crate) fn integer(e: &Expr) -> Option<i128>
     ensures value { result ≡ integer (expression e.now) }
     ensures small { IfSome result (λ whole. unsigned_abs whole < 2 ^ 127) }
@@ -60,7 +62,7 @@ pub(crate) fn integer(e: &Expr) -> Option<i128>
     }
 }
 
-/// Whether the integers from the first to the second are at most 256 and at least one.
+/// Returns true if there are 1 to 256 integers from `low` to `high`.
 fn is_range(low: i128, high: i128) -> bool
     ensures { result ≡ le_z low high && le_z (high -ℤ low) (pos 255) }
 {
@@ -70,7 +72,7 @@ fn is_range(low: i128, high: i128) -> bool
     }
 }
 
-/// Whether these aren't the ends of at most 256 integers, of which there is one at least.
+/// Returns true unless there are 1 to 256 integers from `low` to `high`.
 pub(crate) fn ends_wrong(low: Option<i128>, high: Option<i128>) -> bool
     ensures { result ≡ ends_wrong low high }
 {
@@ -81,7 +83,7 @@ pub(crate) fn ends_wrong(low: Option<i128>, high: Option<i128>) -> bool
     }
 }
 
-/// Whether the integers from this one on aren't all natural numbers.
+/// Returns true if the lower end is negative.
 pub(crate) fn is_negative(low: Option<i128>) -> bool
     ensures { result ≡ is_negative low }
 {
@@ -91,7 +93,7 @@ pub(crate) fn is_negative(low: Option<i128>) -> bool
     }
 }
 
-/// How many copies a loop's body has: a whole number from 1 to 16.
+/// Returns the number of copies of a loop's body: an integer literal from 1 to 16.
 pub(crate) fn copies(e: &Expr) -> Option<u32>
     ensures { result ≡ copies (expression e.now) }
 {

@@ -1,4 +1,5 @@
-//! Right sides with types: what assignments and declarations become, what the rules of a loop give, and what is found against them.
+//! Typed right sides: the acts of assignments and declarations, what the rules before a loop give
+//! it, and the errors in them. `AllocError` means that memory ran out.
 #![tactic(auto)]
 
 mod assignments;

@@ -1,4 +1,4 @@
-//! What stands before a loop.
+//! The rules before a loop.
 
 ghost use Rattle.heylo_formula.specs.Formula.{Form as PlainForm};
 ghost use Rattle.heylo_formula.specs.PlainTrees.{cond_of, form_of};
@@ -9,12 +9,15 @@ ghost use Rattle.typed_expressions.specs.Answers.{Gives, TellsFirst};
 ghost use Rattle.typed_right_sides.specs.Views.{acts_view};
 ghost use Rattle.typed_expressions.specs.Views.{meaning_of, read};
 ghost use Rattle.typed_expressions.specs.Findings.{at};
-ghost use Rattle.static_rules.specs.LoopRules.{copies_wrong, count_of_rankings, formula, is_ranking, rule_findings, rules_findings, rules_wrong, step_wrong, steps_over_zero};
+ghost use Rattle.static_rules.specs.LoopRules.{copies_wrong, count_of_rankings, formula};
+ghost use Rattle.static_rules.specs.LoopRules.{is_ranking, rule_findings, rules_findings};
+ghost use Rattle.static_rules.specs.LoopRules.{rules_wrong, step_wrong, steps_over_zero};
 ghost use Rattle.heyvl_acts.specs.PlainActs.{act_of};
 ghost use Rattle.typed_expressions.specs.Scopes.{Scope as Visible, numbers};
 ghost use Rattle.static_rules.specs.StatementActs.{copies_of};
 ghost use Rattle.typed_expressions.specs.TypedExpressions.{elaborate};
-ghost use Rattle.typed_right_sides.specs.LoopHeads.{found_of, found_with, or_invariant, rules_found};
+ghost use Rattle.typed_right_sides.specs.LoopHeads.{found_of, found_with, or_invariant};
+ghost use Rattle.typed_right_sides.specs.LoopHeads.{rules_found};
 ghost use Rattle.std.specs.List.{list_any};
 ghost use Rattle.std.specs.Prelude.{◌&&◌, ◌≡◌, ◌∷◌, [], IfOk, List, Some, not, ℕ};
 
@@ -29,20 +32,21 @@ use heyvl_syntax::Rule;
 use std::alloc::{AllocError, Global};
 use typed_expressions::{Demand, Meaning, ResolveStop, Scope, form, meets, read, told};
 
-/// What the rules before a loop give it.
+/// The invariant and the ranking that the rules before a loop give.
 #[derive(Drop)]
 pub struct Found {
     /// The first invariant.
     pub invariant: Option<Form>,
     /// The first ranking with its step.
     pub rank: Option<(Frac, Form)>,
-    /// Whether an invariant or a ranking is no formula.
+    /// Whether one of the invariants and rankings is not a formula of type UInt, UReal or EUReal.
     pub misses: bool,
 }
 
-/// What a rule's formula becomes, or the first fault in the rule's parts.
+/// Elaborates the formula of a rule, or returns the first error in the rule's parts.
 fn read_rule(alloc: Global, scope: &Scope, next: u32, rule: &Rule) -> Result<Meaning, ResolveStop>
-    ensures { Gives read result (rule_findings next scope.now (loop_rule rule.now)) (elaborate next scope.now (formula (loop_rule rule.now))) }
+    ensures { Gives read result (rule_findings next scope.now (loop_rule rule.now))
+        (elaborate next scope.now (formula (loop_rule rule.now))) }
 {
     match rule {
         Rule::Invariant(invariant, _) => read(alloc, scope, next, invariant, Demand::Any),
@@ -57,9 +61,12 @@ fn read_rule(alloc: Global, scope: &Scope, next: u32, rule: &Rule) -> Result<Mea
     }
 }
 
-/// What is found with one more rule, whose formula has become this. An earlier rule of its kind stays.
+/// Adds a rule, whose formula is elaborated to `made`, to the result of the earlier rules. An
+/// earlier rule of its kind remains.
 fn with_rule(found: Found, rule: &Rule, made: Meaning) -> Found
-    ensures { (n : ℕ) (sc : Visible) (rs : List LoopRule) → elaborate n sc (formula (loop_rule rule.now)) ≡ Some (meaning_of made) → found_with result n sc rs ≡ found_with found n sc (loop_rule rule.now ∷ rs) }
+    ensures { (n : ℕ) (sc : Visible) (rs : List LoopRule)
+        → elaborate n sc (formula (loop_rule rule.now)) ≡ Some (meaning_of made)
+        → found_with result n sc rs ≡ found_with found n sc (loop_rule rule.now ∷ rs) }
 {
     let fits = meets(Demand::Formula, &made);
     let misses = found.misses || !fits;
@@ -79,14 +86,19 @@ fn with_rule(found: Found, rule: &Rule, made: Meaning) -> Found
     }
 }
 
-/// What the rules before a loop give it, or the first fault in their parts.
+/// Returns the invariant and the ranking that the rules before a loop give.
+///
+/// # Errors
+///
+/// `Fault` with the first static error in the parts of the rules, or `Memory`.
 pub fn read_rules(
     alloc: Global,
     scope: &Scope,
     next: u32,
     rules: &[Rule],
 ) -> Result<Found, ResolveStop>
-    ensures { Gives found_of result (rules_findings next scope.now (loop_rules rules.now)) (rules_found next scope.now (loop_rules rules.now)) }
+    ensures { Gives found_of result (rules_findings next scope.now (loop_rules rules.now))
+        (rules_found next scope.now (loop_rules rules.now)) }
 {
     let mut found = Found {
         invariant: None,
@@ -100,7 +112,7 @@ pub fn read_rules(
     Ok(found)
 }
 
-/// How many copies a loop's body has: the number of the first invariant.
+/// Returns the number of copies of the first invariant, or 1 if it has none.
 pub(crate) fn copies_of(rules: &[Rule]) -> u32
     ensures { result ≡ copies_of (loop_rules rules.now) }
 {
@@ -114,7 +126,7 @@ pub(crate) fn copies_of(rules: &[Rule]) -> u32
     1
 }
 
-/// Whether it is a ranking whose step isn't a weight literal above 0.
+/// Returns true for a ranking whose step is not a weight literal above 0.
 fn step_wrong(rule: &Rule) -> bool
     ensures { result ≡ step_wrong (loop_rule rule.now) }
 {
@@ -124,7 +136,7 @@ fn step_wrong(rule: &Rule) -> bool
     }
 }
 
-/// Whether it is a ranking whose step has 0 as its divisor.
+/// Returns true for a ranking whose step has the divisor 0.
 fn steps_over_zero(rule: &Rule) -> bool
     ensures { result ≡ steps_over_zero (loop_rule rule.now) }
 {
@@ -134,7 +146,7 @@ fn steps_over_zero(rule: &Rule) -> bool
     }
 }
 
-/// Whether its number of copies isn't one from 1 to 16.
+/// Returns true if the number of copies is not one from 1 to 16.
 fn copies_wrong(rule: &Rule) -> bool
     ensures { result ≡ copies_wrong (loop_rule rule.now) }
 {
@@ -194,7 +206,7 @@ fn any_ranking(rules: &[Rule]) -> bool
     false
 }
 
-/// Whether there isn't exactly one invariant, or more than one ranking.
+/// Returns true unless there is exactly one invariant and at most one ranking.
 fn rules_wrong(rules: &[Rule]) -> bool
     ensures { result ≡ rules_wrong (loop_rules rules.now) }
 {
@@ -210,15 +222,21 @@ fn rules_wrong(rules: &[Rule]) -> bool
     invariants != 1 || rankings > 1
 }
 
-/// The first rule of a loop's own node that is broken. Whether a formula is missing, and whether the body may stand under a
-/// ranking, are handed in.
+/// Returns the first broken rule of a loop as an error at `span`. `misses` says that an invariant
+/// or a ranking is not a formula of type UInt, UReal or EUReal, and `rankable` that a loop with a
+/// ranking may have the body.
 pub fn told_of_loop(
     rules: &[Rule],
     misses: bool,
     rankable: bool,
     span: Span,
 ) -> Result<(), ResolveStop>
-    ensures { TellsFirst result (at span ((12, misses) ∷ (15, list_any step_wrong (loop_rules rules.now)) ∷ (16, list_any steps_over_zero (loop_rules rules.now)) ∷ (18, rules_wrong (loop_rules rules.now)) ∷ (19, list_any copies_wrong (loop_rules rules.now)) ∷ (22, list_any is_ranking (loop_rules rules.now) && not rankable) ∷ [])) }
+    ensures { TellsFirst result
+        (at span ((12, misses) ∷ (15, list_any step_wrong (loop_rules rules.now))
+        ∷ (16, list_any steps_over_zero (loop_rules rules.now))
+        ∷ (18, rules_wrong (loop_rules rules.now))
+        ∷ (19, list_any copies_wrong (loop_rules rules.now))
+        ∷ (22, list_any is_ranking (loop_rules rules.now) && not rankable) ∷ [])) }
 {
     told(
         span,
@@ -233,7 +251,7 @@ pub fn told_of_loop(
     )
 }
 
-/// The invariant; some form where there is none.
+/// Returns the invariant, or infinity if there is none.
 fn or_infinity(invariant: Option<Form>) -> Form
     ensures { form_of result ≡ or_invariant invariant (PlainForm.number infinite) }
 {
@@ -243,7 +261,7 @@ fn or_infinity(invariant: Option<Form>) -> Form
     }
 }
 
-/// The act of a loop whose rules give it this.
+/// Returns the act of a loop from its guard, its body and the result `found` of its rules.
 pub fn loop_act(
     alloc: Global,
     number: u32,
@@ -254,7 +272,17 @@ pub fn loop_act(
     body: Vec<Act>,
     span: Span,
 ) -> Result<Act, AllocError>
-    ensures { IfOk result (λ act. act_of act ≡ Plain.loop (record { number = number; k = copies_of (loop_rules rules.now); inv = (found_of found).invariant; guard = cond_of guard; rank = (found_of found).rank; scope = numbers scope.now; span = span }) (acts_view body)) }
+    ensures { IfOk result (λ act. act_of act
+        ≡ Plain.loop
+        (record {
+          number = number;
+          k = copies_of (loop_rules rules.now);
+          inv = (found_of found).invariant;
+          guard = cond_of guard;
+          rank = (found_of found).rank;
+          scope = numbers scope.now;
+          span = span;
+        }) (acts_view body)) }
 {
     let scope = scope.numbers(alloc)?;
     let one = LoopAct {

@@ -1,4 +1,4 @@
-//! Right sides: the rules that they break, and the acts that give them to variables.
+//! Right sides: the rules that they break, and the acts that assign them.
 
 ghost use Rattle.heyvl_syntax.specs.Expressions.{expression, expressions};
 ghost use Rattle.heyvl_syntax.specs.Statements.{RightSide, choices, right_side};
@@ -10,15 +10,22 @@ ghost use Rattle.heyvl_acts.specs.Acts.{Act as Plain};
 ghost use Rattle.heyvl_acts.specs.PlainActs.{act_of, parts_of};
 ghost use Rattle.heyvl_acts.specs.Tosses.{flip_parts};
 ghost use Rattle.heylo_formula.specs.NumericVariables.{has_variable};
-ghost use Rattle.static_rules.specs.Literals.{ends_wrong, is_over_zero, is_probability, weight, weight_value};
-ghost use Rattle.static_rules.specs.RightSides.{ValueType as Types, any_output_mismatches, first_mismatches, flip_type, has_over_zero, literal_wrong, right_findings, right_rules, right_type, type_of_expression};
+ghost use Rattle.static_rules.specs.Literals.{ends_wrong, is_over_zero, is_probability, weight};
+ghost use Rattle.static_rules.specs.Literals.{weight_value};
+ghost use Rattle.static_rules.specs.RightSides.{ValueType as Types, any_output_mismatches};
+ghost use Rattle.static_rules.specs.RightSides.{first_mismatches, flip_type, has_over_zero};
+ghost use Rattle.static_rules.specs.RightSides.{literal_wrong, right_findings, right_rules};
+ghost use Rattle.static_rules.specs.RightSides.{right_type, type_of_expression};
 ghost use Rattle.typed_expressions.specs.Signatures.{find_call};
 ghost use Rattle.static_rules.specs.StatementActs.{assigned, callee, first_or_zero, unif_parts};
 ghost use Rattle.typed_expressions.specs.Values.{form};
 ghost use Rattle.typed_expressions.specs.TypedExpressions.{closed_findings, elaborate};
-ghost use Rattle.typed_right_sides.specs.internal.RightSideParts.{join_all, types_of, types_of_choices};
-ghost use Rattle.typed_right_sides.specs.internal.RightSideRules.{any_mismatches, call_rules, value_rules};
-ghost use Rattle.std.specs.Prelude.{◌++◌, ◌<◌, ◌^◌, ◌≡◌, [], IfOk, IfSome, Some, false, map, not, option_map, unsigned_abs};
+ghost use Rattle.typed_right_sides.specs.internal.RightSideParts.{join_all, types_of};
+ghost use Rattle.typed_right_sides.specs.internal.RightSideParts.{types_of_choices};
+ghost use Rattle.typed_right_sides.specs.internal.RightSideRules.{any_mismatches, call_rules};
+ghost use Rattle.typed_right_sides.specs.internal.RightSideRules.{value_rules};
+ghost use Rattle.std.specs.Prelude.{◌++◌, ◌<◌, ◌^◌, ◌≡◌, [], IfOk, IfSome, Some, false, map, not};
+ghost use Rattle.std.specs.Prelude.{option_map, unsigned_abs};
 
 use crate::choices::{Choices, any_over_zero, read_choices, weigh_wrong};
 use crate::draws::{flip_parts, unif_parts};
@@ -37,24 +44,24 @@ use heyvl_syntax::{Expr, Right, TypeName};
 use std::alloc::{AllocError, Global};
 use typed_expressions::{Calls, Demand, ResolveStop, Scope, Signature, form, read, told};
 
-/// The variables that a statement gives its right side to, with what its rules ask of them.
+/// The variables that a statement assigns, with what its rules ask of them.
 #[derive(Drop)]
 pub(crate) struct Targets {
-    /// Whether one of them isn't visible.
+    /// Whether one of them is not visible.
     pub(crate) unknown: bool,
     /// Whether a name is given twice.
     pub(crate) twice: bool,
-    /// Whether the type of a declared one can't be declared.
+    /// Whether a declared variable may not have its type.
     pub(crate) undeclarable: bool,
     /// Whether one of them is an input.
     pub(crate) input: bool,
-    /// Their declared types, where they are visible.
+    /// Their declared types; nothing for a variable that is not visible.
     pub(crate) types: Vec<Option<TypeName>>,
     /// Their numbers.
     pub(crate) numbers: Vec<u32>,
 }
 
-/// The number of the first of these variables; 0 where there is none.
+/// Returns the first of the numbers, or 0 if there is none.
 fn first_or_zero(numbers: &[u32]) -> u32
     ensures { result ≡ first_or_zero numbers.now }
 {
@@ -64,7 +71,7 @@ fn first_or_zero(numbers: &[u32]) -> u32
     }
 }
 
-/// Whether a value of this type may not be given to the first target.
+/// Returns true if a value of this type may not be assigned to the first target.
 fn first_mismatches(value: Option<ValueType>, targets: &[Option<TypeName>]) -> bool
     ensures { result ≡ first_mismatches (option_map value_type value) targets.now }
 {
@@ -74,8 +81,8 @@ fn first_mismatches(value: Option<ValueType>, targets: &[Option<TypeName>]) -> b
     }
 }
 
-/// The rules of a statement whose right side is no call: its type, whether a literal is out of range, and whether a divisor
-/// is 0, are handed in.
+/// Returns the rules of a right side other than a call, which has the type `value`. `literal` says
+/// that a literal is out of range, and `zero` that a divisor is 0.
 fn value_rules(
     targets: &Targets,
     value: Option<ValueType>,
@@ -96,7 +103,7 @@ fn value_rules(
     ]
 }
 
-/// What a statement with an expression becomes, or the first fault in it.
+/// Returns the act that assigns an expression, or the first error in the statement.
 fn read_plain(
     alloc: Global,
     scope: &Scope,
@@ -105,14 +112,21 @@ fn read_plain(
     targets: &Targets,
     span: Span,
 ) -> Result<Act, ResolveStop>
-    ensures { Gives act_of result (right_findings next scope.now (RightSide.plain (expression e.now)) ++ at span (value_rules targets.now (right_type next scope.now (RightSide.plain (expression e.now))) (literal_wrong next scope.now (RightSide.plain (expression e.now))) (has_over_zero (RightSide.plain (expression e.now))))) (assigned [] next scope.now targets.now.numbers.items (RightSide.plain (expression e.now)) span) }
+    ensures { Gives act_of result
+        (right_findings next scope.now (RightSide.plain (expression e.now))
+        ++ at span (value_rules targets.now
+        (right_type next scope.now (RightSide.plain (expression e.now)))
+        (literal_wrong next scope.now (RightSide.plain (expression e.now)))
+        (has_over_zero (RightSide.plain (expression e.now)))))
+        (assigned [] next scope.now targets.now.numbers.items
+        (RightSide.plain (expression e.now)) span) }
 {
     let value = read_value(alloc, scope, next, e)?;
     told(span, &value_rules(targets, value.ty, false, false))?;
     Ok(Act::Set(first_or_zero(&targets.numbers), value.term, span))
 }
 
-/// What a statement with a flip becomes, or the first fault in it.
+/// Returns the act that assigns a `flip`, or the first error in the statement.
 fn read_flip(
     alloc: Global,
     scope: &Scope,
@@ -121,7 +135,14 @@ fn read_flip(
     targets: &Targets,
     span: Span,
 ) -> Result<Act, ResolveStop>
-    ensures { Gives act_of result (right_findings next scope.now (RightSide.flip (expression probability.now)) ++ at span (value_rules targets.now (right_type next scope.now (RightSide.flip (expression probability.now))) (literal_wrong next scope.now (RightSide.flip (expression probability.now))) (has_over_zero (RightSide.flip (expression probability.now))))) (assigned [] next scope.now targets.now.numbers.items (RightSide.flip (expression probability.now)) span) }
+    ensures { Gives act_of result
+        (right_findings next scope.now (RightSide.flip (expression probability.now))
+        ++ at span (value_rules targets.now
+        (right_type next scope.now (RightSide.flip (expression probability.now)))
+        (literal_wrong next scope.now (RightSide.flip (expression probability.now)))
+        (has_over_zero (RightSide.flip (expression probability.now)))))
+        (assigned [] next scope.now targets.now.numbers.items
+        (RightSide.flip (expression probability.now)) span) }
 {
     if is_weight_literal(weight_of(probability)) {
         read_likely(alloc, probability, targets, span)
@@ -130,14 +151,19 @@ fn read_flip(
     }
 }
 
-/// The same where the probability is a weight literal.
+/// Returns the act of a `flip` whose probability is a weight literal, or the first error.
 fn read_likely(
     alloc: Global,
     probability: &Expr,
     targets: &Targets,
     span: Span,
 ) -> Result<Act, ResolveStop>
-    ensures { Gives act_of result (at span (value_rules targets.now (Some Types.truth) (not (is_probability (weight (expression probability.now)))) (is_over_zero (weight (expression probability.now))))) (Plain.draw (first_or_zero targets.now.numbers.items) (flip_parts (weight_value (weight (expression probability.now)))) span) }
+    ensures { Gives act_of result
+        (at span (value_rules targets.now (Some Types.truth)
+        (not (is_probability (weight (expression probability.now))))
+        (is_over_zero (weight (expression probability.now)))))
+        (Plain.draw (first_or_zero targets.now.numbers.items)
+        (flip_parts (weight_value (weight (expression probability.now)))) span) }
 {
     let improbable = !is_probability(weight_of(probability));
     let zero = is_over_zero(weight_of(probability));
@@ -147,7 +173,7 @@ fn read_likely(
     Ok(Act::Draw(first_or_zero(&targets.numbers), parts, span))
 }
 
-/// The same where the probability is another expression.
+/// Returns the act of a `flip` whose probability is another expression, or the first error.
 fn read_toss(
     alloc: Global,
     scope: &Scope,
@@ -156,7 +182,13 @@ fn read_toss(
     targets: &Targets,
     span: Span,
 ) -> Result<Act, ResolveStop>
-    ensures { Gives act_of result (closed_findings Demand.Any next scope.now (expression probability.now) ++ at span (value_rules targets.now (flip_type false (type_of_expression next scope.now (expression probability.now))) (has_variable (form (elaborate next scope.now (expression probability.now)))) false)) (Plain.toss (first_or_zero targets.now.numbers.items) (form (elaborate next scope.now (expression probability.now))) span) }
+    ensures { Gives act_of result
+        (closed_findings Demand.Any next scope.now (expression probability.now)
+        ++ at span (value_rules targets.now
+        (flip_type false (type_of_expression next scope.now (expression probability.now)))
+        (has_variable (form (elaborate next scope.now (expression probability.now)))) false))
+        (Plain.toss (first_or_zero targets.now.numbers.items)
+        (form (elaborate next scope.now (expression probability.now))) span) }
 {
     let made = read(alloc, scope, next, probability, Demand::Any)?;
     let ty = toss_type(type_of_meaning(&made));
@@ -166,7 +198,7 @@ fn read_toss(
     Ok(Act::Toss(first_or_zero(&targets.numbers), weight, span))
 }
 
-/// The parts of a unif between these ends; none where one of them isn't there.
+/// Returns the parts of a `unif` from `low` to `high`; none if one of them is missing.
 fn parts_between(
     alloc: Global,
     low: Option<i128>,
@@ -184,7 +216,7 @@ fn parts_between(
     }
 }
 
-/// What a statement with a unif becomes, or the first fault in it.
+/// Returns the act that assigns a `unif`, or the first error in the statement.
 fn read_unif(
     alloc: Global,
     scope: &Scope,
@@ -194,7 +226,14 @@ fn read_unif(
     targets: &Targets,
     span: Span,
 ) -> Result<Act, ResolveStop>
-    ensures { Gives act_of result (right_findings next scope.now (RightSide.unif (expression low.now) (expression high.now)) ++ at span (value_rules targets.now (right_type next scope.now (RightSide.unif (expression low.now) (expression high.now))) (literal_wrong next scope.now (RightSide.unif (expression low.now) (expression high.now))) (has_over_zero (RightSide.unif (expression low.now) (expression high.now))))) (assigned [] next scope.now targets.now.numbers.items (RightSide.unif (expression low.now) (expression high.now)) span) }
+    ensures { Gives act_of result
+        (right_findings next scope.now (RightSide.unif (expression low.now) (expression high.now))
+        ++ at span (value_rules targets.now
+        (right_type next scope.now (RightSide.unif (expression low.now) (expression high.now)))
+        (literal_wrong next scope.now (RightSide.unif (expression low.now) (expression high.now)))
+        (has_over_zero (RightSide.unif (expression low.now) (expression high.now)))))
+        (assigned [] next scope.now targets.now.numbers.items
+        (RightSide.unif (expression low.now) (expression high.now)) span) }
 {
     read(alloc, scope, next, low, Demand::Any)?;
     read(alloc, scope, next, high, Demand::Any)?;
@@ -209,7 +248,7 @@ fn read_unif(
     Ok(Act::Draw(first_or_zero(&targets.numbers), parts, span))
 }
 
-/// What a statement with a choose becomes, or the first fault in it.
+/// Returns the act that assigns a `choose`, or the first error in the statement.
 fn read_choose(
     alloc: Global,
     scope: &Scope,
@@ -218,7 +257,14 @@ fn read_choose(
     targets: &Targets,
     span: Span,
 ) -> Result<Act, ResolveStop>
-    ensures { Gives act_of result (right_findings next scope.now (RightSide.choose (choices all.now)) ++ at span (value_rules targets.now (join_all (types_of_choices next scope.now (choices all.now))) (literal_wrong next scope.now (RightSide.choose (choices all.now))) (has_over_zero (RightSide.choose (choices all.now))))) (assigned [] next scope.now targets.now.numbers.items (RightSide.choose (choices all.now)) span) }
+    ensures { Gives act_of result
+        (right_findings next scope.now (RightSide.choose (choices all.now))
+        ++ at span (value_rules targets.now
+        (join_all (types_of_choices next scope.now (choices all.now)))
+        (literal_wrong next scope.now (RightSide.choose (choices all.now)))
+        (has_over_zero (RightSide.choose (choices all.now)))))
+        (assigned [] next scope.now targets.now.numbers.items
+        (RightSide.choose (choices all.now)) span) }
 {
     let Choices { parts, types } = read_choices(alloc, scope, next, all)?;
     let rules = value_rules(
@@ -231,7 +277,7 @@ fn read_choose(
     Ok(Act::Draw(first_or_zero(&targets.numbers), parts, span))
 }
 
-/// Whether one of these values may not be given to the input beside it.
+/// Returns true if the type of a value does not match that of its input.
 fn any_mismatches(values: &[Option<ValueType>], inputs: &[TypeName]) -> bool
     ensures { result ≡ any_mismatches (map (option_map value_type) values.now) inputs.now }
 {
@@ -248,7 +294,7 @@ fn any_mismatches(values: &[Option<ValueType>], inputs: &[TypeName]) -> bool
     false
 }
 
-/// Whether one of these outputs may not be given to the target beside it.
+/// Returns true if the type of an output does not match that of its target.
 fn any_output_mismatches(outputs: &[TypeName], targets: &[Option<TypeName>]) -> bool
     ensures { result ≡ any_output_mismatches outputs.now targets.now }
 {
@@ -265,14 +311,16 @@ fn any_output_mismatches(outputs: &[TypeName], targets: &[Option<TypeName>]) -> 
     false
 }
 
-/// What calling a procedure with values of these types breaks: the targets' rules, and those of the call.
+/// Returns the rules of a call of `procedure` with arguments of these types.
 fn call_rules(
     co: bool,
     targets: &Targets,
     procedure: Option<&Signature>,
     arguments: &[Option<ValueType>],
 ) -> [(u8, bool); 7]
-    ensures { result ≡ call_rules co targets.now (option_map (λ found. signature_of found.now) procedure.entry) (map (option_map value_type) arguments.now) }
+    ensures { result ≡ call_rules co targets.now
+        (option_map (λ found. signature_of found.now) procedure.entry)
+        (map (option_map value_type) arguments.now) }
 {
     let unknown = targets.unknown || procedure.is_none();
     let (mismatch, counts, against, quantified) = match procedure {
@@ -296,7 +344,7 @@ fn call_rules(
     ]
 }
 
-/// What a statement with a call becomes, or the first fault in it.
+/// Returns the act of a call, or the first error in the statement.
 fn read_call(
     alloc: Global,
     co: bool,
@@ -308,7 +356,12 @@ fn read_call(
     targets: Targets,
     span: Span,
 ) -> Result<Act, ResolveStop>
-    ensures { Gives act_of result (right_findings next scope.now (RightSide.call name.now (expressions arguments.now)) ++ at span (call_rules co targets (find_call calls.now name.now) (types_of next scope.now (expressions arguments.now)))) (assigned calls.now next scope.now targets.numbers.items (RightSide.call name.now (expressions arguments.now)) span) }
+    ensures { Gives act_of result
+        (right_findings next scope.now (RightSide.call name.now (expressions arguments.now))
+        ++ at span (call_rules co targets (find_call calls.now name.now)
+        (types_of next scope.now (expressions arguments.now))))
+        (assigned calls.now next scope.now targets.numbers.items
+        (RightSide.call name.now (expressions arguments.now)) span) }
 {
     let Values { terms, types } = read_values(alloc, scope, next, arguments)?;
     let procedure = calls.find(name);
@@ -316,7 +369,7 @@ fn read_call(
     Ok(Act::Call(targets.numbers, number(procedure), terms, span))
 }
 
-/// The number of a procedure; 0 where there is none.
+/// Returns the number of a procedure, or 0 without one.
 fn number(procedure: Option<&Signature>) -> u32
     ensures { result ≡ callee (option_map (λ found. signature_of found.now) procedure.entry) }
 {
@@ -326,7 +379,7 @@ fn number(procedure: Option<&Signature>) -> u32
     }
 }
 
-/// What a statement that gives a right side to targets becomes, or the first fault in it.
+/// Returns the act that assigns a right side to `targets`, or the first error in the statement.
 pub(crate) fn read_right(
     alloc: Global,
     co: bool,
@@ -337,7 +390,11 @@ pub(crate) fn read_right(
     right: &Right,
     span: Span,
 ) -> Result<Act, ResolveStop>
-    ensures { Gives act_of result (right_findings next scope.now (right_side right.now) ++ at span (right_rules co calls.now next scope.now targets.unknown targets.twice targets.undeclarable targets.input targets.types.items (right_side right.now))) (assigned calls.now next scope.now targets.numbers.items (right_side right.now) span) }
+    ensures { Gives act_of result
+        (right_findings next scope.now (right_side right.now)
+        ++ at span (right_rules co calls.now next scope.now targets.unknown targets.twice
+        targets.undeclarable targets.input targets.types.items (right_side right.now)))
+        (assigned calls.now next scope.now targets.numbers.items (right_side right.now) span) }
 {
     match right {
         Right::Plain(e) => read_plain(alloc, scope, next, e, &targets, span),

@@ -1,4 +1,4 @@
-//! Values that are given to variables, and their types.
+//! Values that are assigned to variables, and their types.
 
 ghost use Rattle.heylo_formula.specs.PlainTrees.{term_of};
 ghost use Rattle.heyvl_syntax.specs.Expressions.{expression, expressions};
@@ -8,7 +8,8 @@ ghost use Rattle.typed_expressions.specs.Views.{meaning_of};
 ghost use Rattle.static_rules.specs.RightSides.{all_findings, type_of_expression};
 ghost use Rattle.typed_expressions.specs.Values.{term, terms};
 ghost use Rattle.typed_expressions.specs.TypedExpressions.{closed_findings, elaborate};
-ghost use Rattle.typed_right_sides.specs.internal.RightSideParts.{join_all, join_more, types_of, value_of, values_of};
+ghost use Rattle.typed_right_sides.specs.internal.RightSideParts.{join_all, join_more, types_of};
+ghost use Rattle.typed_right_sides.specs.internal.RightSideParts.{value_of, values_of};
 ghost use Rattle.std.specs.Prelude.{◌≡◌, ◌∷◌, [], Some, map, option_map};
 
 use crate::value_types::{ValueType, join_types, type_of_meaning};
@@ -18,21 +19,21 @@ use heyvl_syntax::Expr;
 use std::alloc::Global;
 use typed_expressions::{Demand, Meaning, ResolveStop, Scope, read};
 
-/// A value, with its type where a variable may have it.
+/// A value, and its type if a variable may have it.
 #[derive(Drop)]
 pub(crate) struct Value {
     pub(crate) term: Term,
     pub(crate) ty: Option<ValueType>,
 }
 
-/// Values in their order, and beside them their types.
+/// Values in their order, and their types.
 #[derive(Drop)]
 pub(crate) struct Values {
     pub(crate) terms: Vec<Term>,
     pub(crate) types: Vec<Option<ValueType>>,
 }
 
-/// The term that an expression becomes.
+/// Returns the term of an elaborated expression.
 fn term(made: Meaning) -> Term
     ensures { term_of result ≡ term (Some (meaning_of made)) }
 {
@@ -43,14 +44,17 @@ fn term(made: Meaning) -> Term
     }
 }
 
-/// The value that an expression becomes, or the first fault in it.
+/// Returns the value of an expression, or the first error in it.
 pub(crate) fn read_value(
     alloc: Global,
     scope: &Scope,
     next: u32,
     e: &Expr,
 ) -> Result<Value, ResolveStop>
-    ensures { Gives value_of result (closed_findings Demand.Any next scope.now (expression e.now)) (term (elaborate next scope.now (expression e.now)), type_of_expression next scope.now (expression e.now)) }
+    ensures { Gives value_of result (closed_findings Demand.Any next scope.now (expression e.now)) (
+      term (elaborate next scope.now (expression e.now)),
+      type_of_expression next scope.now (expression e.now),
+    ) }
 {
     let made = read(alloc, scope, next, e, Demand::Any)?;
     let ty = type_of_meaning(&made);
@@ -60,14 +64,17 @@ pub(crate) fn read_value(
     })
 }
 
-/// The values that expressions become, or the first fault in them.
+/// Returns the values of expressions, or the first error in them.
 pub(crate) fn read_values(
     alloc: Global,
     scope: &Scope,
     next: u32,
     all: &[Expr],
 ) -> Result<Values, ResolveStop>
-    ensures { Gives values_of result (all_findings next scope.now (expressions all.now)) (terms next scope.now (expressions all.now), types_of next scope.now (expressions all.now)) }
+    ensures { Gives values_of result (all_findings next scope.now (expressions all.now)) (
+      terms next scope.now (expressions all.now),
+      types_of next scope.now (expressions all.now),
+    ) }
 {
     let mut terms = Vec::with_capacity(alloc, all.len())?;
     let mut types = Vec::with_capacity(alloc, all.len())?;
@@ -79,14 +86,15 @@ pub(crate) fn read_values(
     Ok(Values { terms, types })
 }
 
-/// The join of two types, where both are there.
+/// Returns the common type of two types, if there is one.
 fn join_both(a: Option<ValueType>, b: Option<ValueType>) -> Option<ValueType>
-    ensures { option_map value_type result ≡ join_more (option_map value_type a) (option_map value_type b ∷ []) }
+    ensures { option_map value_type result
+        ≡ join_more (option_map value_type a) (option_map value_type b ∷ []) }
 {
     join_types(a?, b?)
 }
 
-/// The join of these types, where there is one.
+/// Returns the common type of all types, if there is one.
 pub(crate) fn join_all(types: &[Option<ValueType>]) -> Option<ValueType>
     ensures { option_map value_type result ≡ join_all (map (option_map value_type) types.now) }
 {

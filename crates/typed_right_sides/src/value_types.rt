@@ -1,22 +1,24 @@
-//! The types of values that may be given to variables.
+//! The types of values that variables may be assigned.
 
 ghost use Rattle.typed_right_sides.specs.Views.{value_type};
 ghost use Rattle.typed_expressions.specs.Views.{meaning_of, kind_of};
-ghost use Rattle.static_rules.specs.RightSides.{flip_type, join_types, mismatches, mismatches_target, type_of_integers, type_of_meaning, type_of_name, value_widens_to};
+ghost use Rattle.static_rules.specs.RightSides.{flip_type, join_types, mismatches};
+ghost use Rattle.static_rules.specs.RightSides.{mismatches_target, type_of_integers};
+ghost use Rattle.static_rules.specs.RightSides.{type_of_meaning, type_of_name, value_widens_to};
 ghost use Rattle.heylo_formula.specs.Typing.{is_finite_type, widens};
 ghost use Rattle.std.specs.Prelude.{◌≡◌, ◌&&◌, Some, false, option_map};
 
 use heyvl_syntax::TypeName;
 use typed_expressions::{Kind, Meaning, joined};
 
-/// The type of a value that may be given to a variable.
+/// The type of a value that a variable may be assigned.
 #[derive(Clone, Copy, Debug, PartialEq, Eq)]
 pub(crate) enum ValueType {
     Truth,
     Number(Kind),
 }
 
-/// The type of what an expression becomes.
+/// Returns the type of an elaborated expression, if a variable may have it.
 pub(crate) fn type_of_meaning(made: &Meaning) -> Option<ValueType>
     ensures { option_map value_type result ≡ type_of_meaning (meaning_of made.now) }
 {
@@ -27,7 +29,7 @@ pub(crate) fn type_of_meaning(made: &Meaning) -> Option<ValueType>
     }
 }
 
-/// The type that a name of a type stands for.
+/// Returns the type of the values that a type name denotes.
 pub(crate) fn type_of_name(name: TypeName) -> Option<ValueType>
     ensures { option_map value_type result ≡ type_of_name name }
 {
@@ -41,7 +43,7 @@ pub(crate) fn type_of_name(name: TypeName) -> Option<ValueType>
     }
 }
 
-/// The type of the integers from one on, of which it is told whether it is negative.
+/// Returns the type of the integers from a lower end on: Int if this is negative, otherwise UInt.
 pub(crate) fn type_of_integers(negative: bool) -> ValueType
     ensures { value_type result ≡ type_of_integers negative }
 {
@@ -52,7 +54,8 @@ pub(crate) fn type_of_integers(negative: bool) -> ValueType
     }
 }
 
-/// The type of what a flip gives whose probability, no weight literal, has this type: none where that isn't UInt or UReal.
+/// Returns the type of a `flip` whose probability is not a weight literal and has the type `ty`:
+/// none unless that is UInt or UReal.
 pub(crate) fn toss_type(ty: Option<ValueType>) -> Option<ValueType>
     ensures { option_map value_type result ≡ flip_type false (option_map value_type ty) }
 {
@@ -66,7 +69,7 @@ pub(crate) fn toss_type(ty: Option<ValueType>) -> Option<ValueType>
     }
 }
 
-/// The join of two types, where there is one.
+/// Returns the common type of two types, if there is one.
 pub(crate) fn join_types(a: ValueType, b: ValueType) -> Option<ValueType>
     ensures { option_map value_type result ≡ join_types (value_type a) (value_type b) }
 {
@@ -81,9 +84,10 @@ pub(crate) fn join_types(a: ValueType, b: ValueType) -> Option<ValueType>
     }
 }
 
-/// Whether a type of numbers widens to another that a variable may have.
+/// Returns true if a finite type of numbers widens to another.
 fn widens(from: Kind, to: Kind) -> bool
-    ensures { result ≡ (is_finite_type (Some (kind_of from)) && widens (kind_of from) (kind_of to)) }
+    ensures { result ≡ (is_finite_type (Some (kind_of from))
+        && widens (kind_of from) (kind_of to)) }
 {
     match (from, to) {
         (Kind::UInt, _) => true,
@@ -99,7 +103,7 @@ fn widens(from: Kind, to: Kind) -> bool
     }
 }
 
-/// Whether a value of the first type may be given to a variable of the second.
+/// Returns true if a value of the first type may be assigned to a variable of the second.
 fn widens_to(from: ValueType, to: ValueType) -> bool
     ensures { result ≡ value_widens_to (value_type from) (value_type to) }
 {
@@ -111,7 +115,7 @@ fn widens_to(from: ValueType, to: ValueType) -> bool
     }
 }
 
-/// Whether a value of this type may not be given to a variable of this declared type.
+/// Returns true if a value of this type may not be assigned to a variable of this declared type.
 pub(crate) fn mismatches(value: Option<ValueType>, name: TypeName) -> bool
     ensures { result ≡ mismatches (option_map value_type value) name }
 {
@@ -122,7 +126,8 @@ pub(crate) fn mismatches(value: Option<ValueType>, name: TypeName) -> bool
     }
 }
 
-/// The same of a target, of which nothing is said where it isn't visible.
+/// Returns true if a value of this type may not be assigned to a target; false for a target that is
+/// not visible.
 pub(crate) fn mismatches_target(value: Option<ValueType>, target: Option<TypeName>) -> bool
     ensures { result ≡ mismatches_target (option_map value_type value) target }
 {

@@ -1,10 +1,12 @@
-//! Weights: what stands where a probability or a step is asked for.
+//! Weights: expressions as probabilities or steps.
 
 ghost use Rattle.heyvl_num.specs.Rational.{leqʳ, oneʳ, ratio, zeroʳ, ◌*ʳ◌};
 ghost use Rattle.heyvl_places.specs.declared.spans.Span.{Span as Place};
 ghost use Rattle.heyvl_syntax.specs.Expressions.{Expression, expression};
 ghost use Rattle.heyvl_syntax.specs.declared.operators.BinaryOp.{BinaryOp as Operator};
-ghost use Rattle.static_rules.specs.Literals.{is_over_zero, is_probability, is_step, is_too_wide, is_usable, is_weight_literal, weight, weight_of_quotient, weight_of_value, weight_value};
+ghost use Rattle.static_rules.specs.Literals.{is_over_zero, is_probability, is_step, is_too_wide};
+ghost use Rattle.static_rules.specs.Literals.{is_usable, is_weight_literal, weight};
+ghost use Rattle.static_rules.specs.Literals.{weight_of_quotient, weight_of_value, weight_value};
 ghost use Rattle.std.specs.Int.Signed.{le_z};
 ghost use Rattle.std.specs.Prelude.{◌&&◌, ◌≡◌, false, if◌then◌else◌, pos, true, unsigned_abs};
 ghost use Rattle.typed_expressions.specs.LiteralValues.{is_written, literal_value};
@@ -14,17 +16,17 @@ use heyvl_syntax::{BinaryOp, Expr, Lit};
 use static_rules::Weight;
 use typed_expressions::{inverse, literal_value, number};
 
-/// The least number that is too large for a part of a weight.
+/// The least number above each numerator and denominator that a weight may have.
 const LIMIT: u128 = 1 << 62;
 
-/// Whether the numerator or the denominator in lowest terms is 2^62 or more.
+/// Returns true if the numerator or the denominator in lowest terms is 2^62 or more.
 pub(crate) fn is_too_wide(value: Frac) -> bool
     ensures { result ≡ is_too_wide value }
 {
     value.num().unsigned_abs() >= LIMIT || value.den().unsigned_abs() >= LIMIT
 }
 
-/// What a value is as a weight.
+/// Returns the weight with this value.
 fn weight_of_value(value: Frac) -> Weight
     ensures { result ≡ weight_of_value value }
 {
@@ -35,7 +37,7 @@ fn weight_of_value(value: Frac) -> Weight
     }
 }
 
-/// The fraction of these parts.
+/// Returns the fraction `num / den`.
 pub(crate) fn fraction(num: i128, den: i128) -> Frac
     requires natural { le_z (pos 0) num ≡ true }
     requires positive { le_z (pos 1) den ≡ true }
@@ -44,8 +46,8 @@ pub(crate) fn fraction(num: i128, den: i128) -> Frac
     Frac::new(num, den).unwrap()
 }
 
-/// What the product of two fractions is as a weight. The numerator of each is reduced with the denominator of the other, so
-/// that a product which can't be written is too wide in lowest terms.
+/// Returns the product of two fractions as a weight. The numerator of each is reduced with the
+/// denominator of the other, so that a product that overflows is too wide in lowest terms.
 fn weight_of_product(left: Frac, right: Frac) -> Weight
     requires left { le_z (pos 0) left.num ≡ true }
     requires right { le_z (pos 0) right.num ≡ true }
@@ -59,9 +61,10 @@ fn weight_of_product(left: Frac, right: Frac) -> Weight
     }
 }
 
-/// What one literal divided by another is as a weight.
+/// Returns one literal divided by another as a weight.
 fn weight_of_quotient(dividend: Lit, divisor: Lit) -> Weight
-    ensures { result ≡ if is_written dividend && is_written divisor then weight_of_quotient dividend divisor else Weight.NotLiteral }
+    ensures { result ≡ if is_written dividend && is_written divisor
+        then weight_of_quotient dividend divisor else Weight.NotLiteral }
 {
     match (literal_value(dividend), literal_value(divisor)) {
         (Some(value), Some(_)) => match inverse(divisor) {
@@ -73,9 +76,10 @@ fn weight_of_quotient(dividend: Lit, divisor: Lit) -> Weight
     }
 }
 
-/// What a literal is as a weight.
+/// Returns a number literal as a weight.
 fn weight_of_literal(literal: Lit) -> Weight
-    ensures { result ≡ if is_written literal then weight_of_value (literal_value literal) else Weight.NotLiteral }
+    ensures { result ≡ if is_written literal then weight_of_value (literal_value literal)
+        else Weight.NotLiteral }
 {
     match literal_value(literal) {
         Some(value) => weight_of_value(value),
@@ -83,9 +87,10 @@ fn weight_of_literal(literal: Lit) -> Weight
     }
 }
 
-/// What one expression divided by another is as a weight.
+/// Returns one expression divided by another as a weight.
 fn weight_of_division(left: &Expr, right: &Expr) -> Weight
-    ensures { (s : Place) → result ≡ weight (Expression.binary Operator.Slash (expression left.now) (expression right.now) s) }
+    ensures { (s : Place) → result
+        ≡ weight (Expression.binary Operator.Slash (expression left.now) (expression right.now) s) }
 {
     match (number(left), number(right)) {
         (Some(dividend), Some(divisor)) => weight_of_quotient(dividend, divisor),
@@ -94,9 +99,10 @@ fn weight_of_division(left: &Expr, right: &Expr) -> Weight
     }
 }
 
-/// What an operator between two expressions is as a weight.
+/// Returns an operator between two expressions as a weight.
 fn weight_of_operator(op: BinaryOp, left: &Expr, right: &Expr) -> Weight
-    ensures { (s : Place) → result ≡ weight (Expression.binary op (expression left.now) (expression right.now) s) }
+    ensures { (s : Place) → result
+        ≡ weight (Expression.binary op (expression left.now) (expression right.now) s) }
 {
     match op {
         BinaryOp::Slash => weight_of_division(left, right),
@@ -118,7 +124,7 @@ fn weight_of_operator(op: BinaryOp, left: &Expr, right: &Expr) -> Weight
     }
 }
 
-/// What an expression is as a weight.
+/// Returns an expression as a weight.
 pub(crate) fn weight_of(e: &Expr) -> Weight
     ensures { result ≡ weight (expression e.now) }
 {
@@ -137,7 +143,7 @@ pub(crate) fn weight_of(e: &Expr) -> Weight
     }
 }
 
-/// Whether it is a number literal or one divided by another.
+/// Returns true for a number literal or one divided by another.
 pub(crate) fn is_weight_literal(weight: Weight) -> bool
     ensures { result ≡ is_weight_literal weight }
 {
@@ -149,7 +155,7 @@ pub(crate) fn is_weight_literal(weight: Weight) -> bool
     }
 }
 
-/// Whether it has 0 as its divisor.
+/// Returns true if the divisor is 0.
 pub(crate) fn is_over_zero(weight: Weight) -> bool
     ensures { result ≡ is_over_zero weight }
 {
@@ -161,28 +167,28 @@ pub(crate) fn is_over_zero(weight: Weight) -> bool
     }
 }
 
-/// Whether a fraction is at least 1.
+/// Returns true if a fraction is at least 1.
 pub(crate) fn at_least_one(value: Frac) -> bool
     ensures { result ≡ leqʳ oneʳ value }
 {
     value.den() <= value.num()
 }
 
-/// Whether a fraction is at most 1.
+/// Returns true if a fraction is at most 1.
 pub(crate) fn at_most_one(value: Frac) -> bool
     ensures { result ≡ leqʳ value oneʳ }
 {
     value.num() <= value.den()
 }
 
-/// Whether a fraction is at most 0.
+/// Returns true if a fraction is at most 0.
 fn at_most_zero(value: Frac) -> bool
     ensures { result ≡ leqʳ value zeroʳ }
 {
     value.num() <= 0
 }
 
-/// Whether it is a weight literal that isn't too wide. A divisor that is 0 breaks another rule.
+/// Returns true for a weight literal that is not too wide. A divisor 0 breaks another rule.
 pub(crate) fn is_usable(weight: Weight) -> bool
     ensures { result ≡ is_usable weight }
 {
@@ -194,7 +200,7 @@ pub(crate) fn is_usable(weight: Weight) -> bool
     }
 }
 
-/// Whether it is from 0 to 1. A divisor that is 0 breaks another rule.
+/// Returns true for a weight literal from 0 to 1. A divisor 0 breaks another rule.
 pub(crate) fn is_probability(weight: Weight) -> bool
     ensures { result ≡ is_probability weight }
 {
@@ -206,7 +212,7 @@ pub(crate) fn is_probability(weight: Weight) -> bool
     }
 }
 
-/// Whether it is above 0. A divisor that is 0 breaks another rule.
+/// Returns true for a weight literal above 0. A divisor 0 breaks another rule.
 pub(crate) fn is_step(weight: Weight) -> bool
     ensures { result ≡ is_step weight }
 {
@@ -218,7 +224,7 @@ pub(crate) fn is_step(weight: Weight) -> bool
     }
 }
 
-/// The value of a weight; 0 where it has none.
+/// Returns the value of a weight, or 0 if it has none.
 pub(crate) fn weight_value(weight: Weight) -> Frac
     ensures { result ≡ weight_value weight }
 {

@@ -3,7 +3,6 @@ use Rattle.static_rules.specs.StatementActs.{targets}
 use Rattle.std.proofs.Common.{take, ◌≡◌}
 use Rattle.typed_expressions.specs.Scopes.{types_of_names}
 
--- The types and numbers of the names that were visited.
 abbrev pub invariant-loop-name : goal.invariant-loop-name
 invariant-loop-name l = record {
   types : l.types.items ≡ types_of_names l.scope (take l.name-index l.names);

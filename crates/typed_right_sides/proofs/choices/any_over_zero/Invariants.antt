@@ -5,6 +5,5 @@ use Rattle.static_rules.specs.RightSides.{weights}
 use Rattle.std.proofs.Common.{drop, ◌≡◌}
 use Rattle.std.specs.List.{list_any}
 
--- There is none so far.
 abbrev pub invariant-loop-likely : goal.invariant-loop-likely
 invariant-loop-likely l = list_any is_over_zero (weights (choices l.all)) ≡ list_any is_over_zero (weights (choices (drop l.likely-index l.all)))

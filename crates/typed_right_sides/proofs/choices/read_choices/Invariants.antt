@@ -7,7 +7,7 @@ use Rattle.typed_right_sides.specs.internal.RightSideParts.{types_of_choices}
 use Rattle.typed_right_sides.specs.Views.{value_type}
 use Rattle.std.proofs.Common.{drop, map, option_map, take, ◌≡◌}
 
--- Nothing is found so far, and what was read is what the choices become that were visited.
+-- The parts so far have no findings, and these are their terms and types.
 abbrev pub invariant-loop-likely : goal.invariant-loop-likely
 invariant-loop-likely l = record {
   found : choices_findings l.next l.scope (choices l.all) ≡ choices_findings l.next l.scope (choices (drop l.likely-index l.all));

@@ -4,6 +4,5 @@ use Rattle.static_rules.specs.LoopRules.{steps_over_zero}
 use Rattle.std.proofs.Common.{drop, ◌≡◌}
 use Rattle.std.specs.List.{list_any}
 
--- What is true of the rules that are left is true of all.
 abbrev pub invariant-loop-rule : goal.invariant-loop-rule
 invariant-loop-rule l = list_any steps_over_zero (loop_rules l.rules) ≡ list_any steps_over_zero (loop_rules (drop l.rule-index l.rules))

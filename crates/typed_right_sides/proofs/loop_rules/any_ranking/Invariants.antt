@@ -4,6 +4,5 @@ use Rattle.static_rules.specs.LoopRules.{is_ranking}
 use Rattle.std.proofs.Common.{drop, ◌≡◌}
 use Rattle.std.specs.List.{list_any}
 
--- What is true of the rules that are left is true of all.
 abbrev pub invariant-loop-rule : goal.invariant-loop-rule
 invariant-loop-rule l = list_any is_ranking (loop_rules l.rules) ≡ list_any is_ranking (loop_rules (drop l.rule-index l.rules))

@@ -5,7 +5,6 @@ use Rattle.typed_right_sides.specs.internal.RightSideParts.{Types}
 use Rattle.typed_right_sides.specs.internal.RightSideRules.{any_mismatches}
 use Rattle.std.proofs.Common.{List, [], drop, false, length, map, option_map, refl, sym, ◌∙◌, ◌≡◌, ◌∷◌}
 
--- Where no input is left, no pair is left.
 none_left : (vs : Types) (ts : List TypeName) → length ts ≡ 0 → any_mismatches vs ts ≡ false
 none_left [] ts e = refl
 none_left (v ∷ vs) [] e = refl

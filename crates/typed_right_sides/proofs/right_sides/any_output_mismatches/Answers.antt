@@ -3,7 +3,6 @@ use Rattle.typed_right_sides.proofs.right_sides.any_output_mismatches.Goals as g
 use Rattle.static_rules.specs.RightSides.{any_output_mismatches}
 use Rattle.std.proofs.Common.{List, Option, [], drop, false, length, refl, sym, ◌∙◌, ◌≡◌, ◌∷◌}
 
--- Where no target is left, no pair is left.
 none_left : (os : List TypeName) (ts : List (Option TypeName)) → length ts ≡ 0 → any_output_mismatches os ts ≡ false
 none_left [] ts e = refl
 none_left (o ∷ os) [] e = refl

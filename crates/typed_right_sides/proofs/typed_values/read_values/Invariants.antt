@@ -7,7 +7,7 @@ use Rattle.typed_right_sides.specs.Views.{value_type}
 use Rattle.std.proofs.Common.{drop, map, option_map, take, ◌≡◌}
 use Rattle.typed_expressions.specs.Values.{terms}
 
--- Nothing is found so far, and what was read is what the expressions become that were visited.
+-- The expressions so far have no findings, and these are their values.
 abbrev pub invariant-loop-e : goal.invariant-loop-e
 invariant-loop-e l = record {
   found : all_findings l.next l.scope (expressions l.all) ≡ all_findings l.next l.scope (expressions (drop l.e-index l.all));
