@@ -1,4 +1,4 @@
--- Clauses that are read one after the other, each with its findings and its form.
+-- Clauses that are read one after the other, each with its findings and its formula.
 use Rattle.heylo_formula.specs.Formula.{Form}
 use Rattle.heyvl_syntax.specs.declared.expressions.Expr.{Expr}
 use Rattle.std.proofs.Common.{Err, List, [], ap, append_assoc, drop, get_or, length, refl, sym, ◌+◌, ◌++◌, ◌<◌, ◌∙◌, ◌≡◌, ◌≤◌, ◌∷◌, ℕ}
@@ -8,7 +8,8 @@ use Rattle.typed_expressions.specs.Answers.{Gives}
 use Rattle.typed_expressions.specs.Findings.{Finding}
 use Rattle.typed_expressions.specs.declared.stops.ResolveStop.{ResolveStop}
 
--- What is found against clauses and what they become, clause by clause: each has its number, and tells that of the next.
+-- The findings and the formula of each clause. Each clause has a number, and gives that of the next
+-- one.
 pub record Clauses : Type 0 where
   pub found : ℕ → Expr → List Finding
   pub made : ℕ → Expr → Form
@@ -20,7 +21,7 @@ pub record Clauses : Type 0 where
   pub made_none : (n : ℕ) → all_made n [] ≡ []
   pub made_more : (n : ℕ) (e : Expr) (es : List Expr) → all_made n (e ∷ es) ≡ made n e ∷ all_made (after n e) es
 
--- What was read, against the whole: those from k on are left, the next has the number n.
+-- The clauses before `k` have been read, and the next one has the number `n`.
 pub record Reads (c : Clauses) (all : List Expr) (first k n : ℕ) (forms : List Form) : Type 0 where
   pub found : c.all_found first all ≡ c.all_found n (drop k all)
   pub made : c.all_made first all ≡ forms ++ c.all_made n (drop k all)

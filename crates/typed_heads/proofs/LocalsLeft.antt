@@ -1,4 +1,4 @@
--- How many variables statements, arms and the fronts of expressions declare, and those behind them.
+-- The numbers of variables that statements, arms and leading quantifiers declare, from an index on.
 use Rattle.heyvl_syntax.specs.Expressions.{expression, expressions}
 use Rattle.heyvl_syntax.specs.Statements.{arms, block, guarded, statement}
 use Rattle.heyvl_syntax.specs.declared.expressions.Expr.{Expr}

@@ -22,7 +22,7 @@ rules sc p = at p.span ((11, is_visible sc p.name) ∷ (12, is_none (declarable 
 abbrev pub shown : ℕ → Param → Scope → Scope
 shown n p sc = with_local p.name (record { number = n; ty = p.ty }) sc
 
--- What was read of parameters, against the whole: those from k on are left, the next has the number n.
+-- The parameters before `k` have been read, and the next one has the number `n`.
 pub record Reads (all : List Param) (first : ℕ) (outer : Scope) (before : List Variable) (k n : ℕ) (sc : Scope) (vars : List Variable) : Type 0 where
   pub found : parameters_findings first outer all ≡ parameters_findings n sc (drop k all)
   pub seen : behind_parameters first outer all ≡ behind_parameters n sc (drop k all)
@@ -44,7 +44,7 @@ goes_on all first outer before k n m sc next vars more p r lt is none number sco
   numbered = let d = at_drop_more length all k p lt in let e = r.numbered in omega (arith, d, e, number);
 }
 
--- The number behind a parameter that is left is in range, where the number behind all is.
+-- The number after a remaining parameter is in range if the one after all is.
 pub in_range : (all : List Param) (first : ℕ) (outer : Scope) (before : List Variable) (k n : ℕ) (sc : Scope) (vars : List Variable) → Reads all first outer before k n sc vars → k < length all → first + length all < 2 ^ 32 → n + 1 < 2 ^ 32
 in_range all first outer before k n sc vars r lt few = let d = length-drop k all in let e = r.numbered in omega (arith, d, e, lt, few)
 

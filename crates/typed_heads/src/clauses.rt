@@ -4,12 +4,14 @@ ghost use Rattle.heylo_formula.specs.PlainTrees.{form_of};
 ghost use Rattle.heyvl_syntax.specs.Expressions.{expression, expressions};
 ghost use Rattle.typed_expressions.specs.Answers.{Gives};
 ghost use Rattle.typed_expressions.specs.Views.{meaning_of};
-ghost use Rattle.static_rules.specs.Files.{clause, front_of, joined_with, post_forms, posts_findings, pre_forms, pres_findings};
+ghost use Rattle.static_rules.specs.Files.{clause, front_of, joined_with, post_forms};
+ghost use Rattle.static_rules.specs.Files.{posts_findings, pre_forms, pres_findings};
 ghost use Rattle.typed_expressions.specs.Values.{form};
 ghost use Rattle.typed_heads.specs.internal.Clauses.{joined_behind};
 ghost use Rattle.typed_expressions.specs.TypedExpressions.{closed_findings, elaborate, findings};
 ghost use Rattle.typed_expressions.specs.DeclaredVariables.{front_variables, fronts_variables};
-ghost use Rattle.std.specs.Prelude.{◌+◌, ◌<◌, ◌^◌, ◌≡◌, ◌∷◌, [], IfOk, OnOk, length, map, option_map};
+ghost use Rattle.std.specs.Prelude.{◌+◌, ◌<◌, ◌^◌, ◌≡◌, ◌∷◌, [], IfOk, OnOk, length, map};
+ghost use Rattle.std.specs.Prelude.{option_map};
 
 use crate::fronts::behind_front;
 use heylo_formula::Form;
@@ -19,7 +21,8 @@ use typed_expressions::{
     Demand, Front, Meaning, ResolveStop, Scope, endless, nothing, read, read_front,
 };
 
-/// The form of an expression; some form where it has none, which is a fault.
+/// Returns the formula of an elaborated expression; infinity if it is not a number, which is an
+/// error.
 fn form(meaning: Meaning) -> Form
     ensures { form_of result ≡ form (Some (meaning_of meaning)) }
 {
@@ -30,23 +33,24 @@ fn form(meaning: Meaning) -> Form
     }
 }
 
-/// Where quantifiers may stand in a post clause.
+/// Returns the quantifiers that may lead a post clause.
 fn front_of(co: bool) -> Front
     ensures { result ≡ front_of co }
 {
     if co { Front::Sup } else { Front::Inf }
 }
 
-/// What no clause stands for.
+/// Returns the bound without a clause: 0 in a coproc, infinity in a proc.
 fn no_clause(co: bool) -> Form
     ensures { form_of result ≡ clause co [] }
 {
     if co { nothing() } else { endless() }
 }
 
-/// Two clauses joined: the greater in a coproc, the lesser in a proc.
+/// Returns two clauses joined: the maximum in a coproc, the minimum in a proc.
 fn join(alloc: Global, co: bool, left: Form, right: Form) -> Result<Form, AllocError>
-    ensures { IfOk result (λ made. form_of made ≡ joined_with co (form_of left) (form_of right ∷ [])) }
+    ensures { IfOk result (λ made. form_of made
+        ≡ joined_with co (form_of left) (form_of right ∷ [])) }
 {
     let left = Box::new(alloc, left)?;
     let right = Box::new(alloc, right)?;
@@ -57,9 +61,10 @@ fn join(alloc: Global, co: bool, left: Form, right: Form) -> Result<Form, AllocE
     })
 }
 
-/// The clauses so far, where there are some, and one more.
+/// Returns the clauses joined so far, if there are any, joined with one more.
 fn with_clause(alloc: Global, co: bool, joined: Option<Form>, one: Form) -> Result<Form, AllocError>
-    ensures { IfOk result (λ made. form_of made ≡ joined_behind co (option_map form_of joined) (form_of one ∷ [])) }
+    ensures { IfOk result (λ made. form_of made
+        ≡ joined_behind co (option_map form_of joined) (form_of one ∷ [])) }
 {
     match joined {
         None => Ok(one),
@@ -67,7 +72,7 @@ fn with_clause(alloc: Global, co: bool, joined: Option<Form>, one: Form) -> Resu
     }
 }
 
-/// Clauses joined from the left. The form that they give is as deep as they are many.
+/// Returns all clauses joined from left to right. The depth of the result grows with their number.
 pub fn clause(alloc: Global, co: bool, all: Vec<Form>) -> Result<Form, AllocError>
     ensures { IfOk result (λ made. form_of made ≡ clause co (map form_of all.items)) }
 {
@@ -81,14 +86,16 @@ pub fn clause(alloc: Global, co: bool, all: Vec<Form>) -> Result<Form, AllocErro
     }
 }
 
-/// What a pre clause becomes, or the first fault in it.
+/// Returns the formula of a pre clause, or the first error in it.
 fn read_pre(alloc: Global, scope: &Scope, next: u32, e: &Expr) -> Result<Form, ResolveStop>
-    ensures { Gives form_of result (closed_findings Demand.Formula next scope.now (expression e.now)) (form (elaborate next scope.now (expression e.now))) }
+    ensures { Gives form_of result
+        (closed_findings Demand.Formula next scope.now (expression e.now))
+        (form (elaborate next scope.now (expression e.now))) }
 {
     Ok(form(read(alloc, scope, next, e, Demand::Formula)?))
 }
 
-/// What a post clause becomes, or the first fault in it.
+/// Returns the formula of a post clause, or the first error in it.
 fn read_post(
     alloc: Global,
     scope: &mut Scope,
@@ -97,21 +104,29 @@ fn read_post(
     e: &Expr,
 ) -> Result<Form, ResolveStop>
     requires { next + length (front_variables (expression e.now)) < 2 ^ 32 }
-    ensures gives { Gives form_of result (findings (front_of co) Demand.Formula next scope.old (expression e.now)) (form (elaborate next scope.old (expression e.now))) }
+    ensures gives { Gives form_of result
+        (findings (front_of co) Demand.Formula next scope.old (expression e.now))
+        (form (elaborate next scope.old (expression e.now))) }
     ensures kept { OnOk result (scope.new ≡ scope.old) }
 {
     let meaning = read_front(alloc, scope, next, e, front_of(co), Demand::Formula)?;
     Ok(form(meaning))
 }
 
-/// What the pre clauses of a procedure become one by one, or the first fault in them.
+/// Returns the formulas of the pre clauses.
+///
+/// # Errors
+///
+/// `Fault` with the first static error in the clauses, or `Memory`.
 pub fn read_pres(
     alloc: Global,
     scope: &Scope,
     next: u32,
     all: &[Expr],
 ) -> Result<Vec<Form>, ResolveStop>
-    ensures { Gives (λ forms. map form_of forms.items) result (pres_findings next scope.now (expressions all.now)) (pre_forms next scope.now (expressions all.now)) }
+    ensures { Gives (λ forms. map form_of forms.items) result
+        (pres_findings next scope.now (expressions all.now))
+        (pre_forms next scope.now (expressions all.now)) }
 {
     let mut forms = Vec::with_capacity(alloc, all.len())?;
     for e in all {
@@ -120,7 +135,11 @@ pub fn read_pres(
     Ok(forms)
 }
 
-/// What the post clauses of a procedure become one by one, or the first fault in them. The first quantified variable has this number.
+/// Returns the formulas of the post clauses. The first quantified variable has the number `first`.
+///
+/// # Errors
+///
+/// `Fault` with the first static error in the clauses, or `Memory`.
 pub fn read_posts(
     alloc: Global,
     scope: &mut Scope,
@@ -129,7 +148,9 @@ pub fn read_posts(
     all: &[Expr],
 ) -> Result<Vec<Form>, ResolveStop>
     requires { first + length (fronts_variables (expressions all.now)) < 2 ^ 32 }
-    ensures gives { Gives (λ forms. map form_of forms.items) result (posts_findings (front_of co) first scope.old (expressions all.now)) (post_forms first scope.old (expressions all.now)) }
+    ensures gives { Gives (λ forms. map form_of forms.items) result
+        (posts_findings (front_of co) first scope.old (expressions all.now))
+        (post_forms first scope.old (expressions all.now)) }
     ensures kept { OnOk result (scope.new ≡ scope.old) }
 {
     let mut forms = Vec::with_capacity(alloc, all.len())?;

@@ -1,4 +1,4 @@
-//! The variables of the quantifiers in the fronts of post clauses.
+//! The variables of the leading quantifiers of post clauses.
 
 ghost use Rattle.heyvl_acts.specs.PlainActs.{variable_of};
 ghost use Rattle.heyvl_syntax.specs.Expressions.{expression, expressions};
@@ -10,7 +10,8 @@ use heyvl_acts::VarInfo;
 use heyvl_syntax::Expr;
 use std::alloc::{AllocError, Global};
 
-/// The number behind the variables of a front, of which the first has this number.
+/// Returns the number after those of the leading quantifiers of an expression, of which the first
+/// has the number `first`.
 pub(crate) fn behind_front(first: u32, e: &Expr) -> u32
     requires { first + length (front_variables (expression e.now)) < 2 ^ 32 }
     ensures { result ≡ first + length (front_variables (expression e.now)) }
@@ -30,9 +31,10 @@ pub(crate) fn behind_front(first: u32, e: &Expr) -> u32
     }
 }
 
-/// The variables of a front behind others.
+/// Appends the variables of the leading quantifiers of an expression.
 fn list_front(alloc: Global, vars: &mut Vec<VarInfo>, e: &Expr) -> Result<(), AllocError>
-    ensures { OnOk result (map variable_of vars.new.items ≡ map variable_of vars.old.items ++ front_variables (expression e.now)) }
+    ensures { OnOk result (map variable_of vars.new.items ≡ map variable_of vars.old.items
+        ++ front_variables (expression e.now)) }
 {
     match e {
         Expr::Bound(_, name, ty, inner, _) => {
@@ -52,9 +54,10 @@ fn list_front(alloc: Global, vars: &mut Vec<VarInfo>, e: &Expr) -> Result<(), Al
     }
 }
 
-/// The variables of the fronts of these expressions behind others.
+/// Appends the variables of the leading quantifiers of expressions.
 pub fn list_fronts(alloc: Global, vars: &mut Vec<VarInfo>, all: &[Expr]) -> Result<(), AllocError>
-    ensures { OnOk result (map variable_of vars.new.items ≡ map variable_of vars.old.items ++ fronts_variables (expressions all.now)) }
+    ensures { OnOk result (map variable_of vars.new.items ≡ map variable_of vars.old.items
+        ++ fronts_variables (expressions all.now)) }
 {
     for e in all {
         list_front(alloc, vars, e)?;

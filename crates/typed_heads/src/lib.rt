@@ -1,4 +1,5 @@
-//! Heads of procedures with types: their parameters and clauses, the variables that these and bodies declare, and what is found against them.
+//! Typed heads of procedures: parameters and clauses, their variables and those of bodies, and the
+//! errors in them. `AllocError` means that memory ran out.
 #![tactic(auto)]
 
 mod clauses;

@@ -1,13 +1,14 @@
-//! How many variables a body declares.
+//! The number of variables that a body declares.
 
 ghost use Rattle.heyvl_syntax.specs.Procedures.{optional_block};
 ghost use Rattle.heyvl_syntax.specs.Statements.{arms, block, statement};
-ghost use Rattle.static_rules.specs.Variables.{locals, locals_of_arms, locals_of_block, locals_of_body};
+ghost use Rattle.static_rules.specs.Variables.{locals, locals_of_arms, locals_of_block};
+ghost use Rattle.static_rules.specs.Variables.{locals_of_body};
 ghost use Rattle.std.specs.Prelude.{◌<◌, ◌^◌, ◌≡◌, length};
 
 use heyvl_syntax::{Arm, Stmt};
 
-/// The variables of a block.
+/// Returns the number of variables that a block declares.
 #[cycle(local_counts)]
 fn count_block(statements: &[Stmt]) -> u32
     requires { length (locals_of_block (block statements.now)) < 2 ^ 32 }
@@ -20,7 +21,7 @@ fn count_block(statements: &[Stmt]) -> u32
     count
 }
 
-/// The variables of a statement.
+/// Returns the number of variables that a statement declares.
 #[cycle(local_counts)]
 fn count_statement(one: &Stmt) -> u32
     requires { length (locals (statement one.now)) < 2 ^ 32 }
@@ -39,7 +40,7 @@ fn count_statement(one: &Stmt) -> u32
     }
 }
 
-/// The variables of arms.
+/// Returns the number of variables that the blocks of arms declare.
 #[cycle(local_counts)]
 fn count_arms(all: &[Arm]) -> u32
     requires { length (locals_of_arms (arms all.now)) < 2 ^ 32 }
@@ -52,7 +53,7 @@ fn count_arms(all: &[Arm]) -> u32
     count
 }
 
-/// The variables of a procedure's body.
+/// Returns the number of variables that a body declares.
 pub fn count_locals(body: &Option<Vec<Stmt>>) -> u32
     requires { length (locals_of_body (optional_block body.now)) < 2 ^ 32 }
     ensures { result ≡ length (locals_of_body (optional_block body.now)) }

@@ -1,4 +1,4 @@
-//! Parameters: the variables that a procedure's head declares.
+//! Parameters: the variables that the head of a procedure declares.
 
 ghost use Rattle.typed_expressions.specs.Answers.{Gives, TellsFirst};
 ghost use Rattle.static_rules.specs.Files.{parameters_findings};
@@ -9,7 +9,8 @@ ghost use Rattle.typed_expressions.specs.Table.{declarable};
 ghost use Rattle.static_rules.specs.Variables.{behind_parameters, parameters};
 ghost use Rattle.typed_expressions.specs.DeclaredVariables.{declared};
 ghost use Rattle.std.specs.Option.{is_none};
-ghost use Rattle.std.specs.Prelude.{◌++◌, ◌+◌, ◌<◌, ◌^◌, ◌≡◌, ◌∷◌, [], IfOk, OnOk, length, map, suc};
+ghost use Rattle.std.specs.Prelude.{◌++◌, ◌+◌, ◌<◌, ◌^◌, ◌≡◌, ◌∷◌, [], IfOk, OnOk, length, map};
+ghost use Rattle.std.specs.Prelude.{suc};
 
 use heylo_formula::Ty;
 use heyvl_acts::VarInfo;
@@ -18,7 +19,8 @@ use heyvl_syntax::{Param, TypeName};
 use std::alloc::{AllocError, Global};
 use typed_expressions::{Local, ResolveStop, Scope, declarable};
 
-/// The variable of a declaration: where its type is none that a variable may have, which is a fault, of some type.
+/// Returns the variable of a declaration, with the type `Bool` if a variable may not have the
+/// declared type, which is an error.
 pub(crate) fn declared(alloc: Global, name: &Name, ty: TypeName) -> Result<VarInfo, AllocError>
     ensures { IfOk result (λ made. variable_of made ≡ declared name.now ty) }
 {
@@ -31,9 +33,11 @@ pub(crate) fn declared(alloc: Global, name: &Name, ty: TypeName) -> Result<VarIn
     })
 }
 
-/// The first broken rule of a parameter.
+/// Returns the first broken rule of a parameter as an error.
 fn check_parameter(scope: &Scope, param: &Param) -> Result<(), ResolveStop>
-    ensures { TellsFirst result (at param.now.span ((11, is_visible scope.now param.now.name) ∷ (12, is_none (declarable param.now.ty)) ∷ [])) }
+    ensures { TellsFirst result
+        (at param.now.span ((11, is_visible scope.now param.now.name)
+        ∷ (12, is_none (declarable param.now.ty)) ∷ [])) }
 {
     if scope.sees(&param.name) {
         return Err(ResolveStop::Fault(11, param.span));
@@ -44,7 +48,7 @@ fn check_parameter(scope: &Scope, param: &Param) -> Result<(), ResolveStop>
     Ok(())
 }
 
-/// One more parameter, with this number. What is returned is the number behind it.
+/// Adds a parameter with this number, and returns the next number.
 fn read_parameter(
     alloc: Global,
     scope: &mut Scope,
@@ -53,9 +57,14 @@ fn read_parameter(
     param: &Param,
 ) -> Result<u32, ResolveStop>
     requires { number + 1 < 2 ^ 32 }
-    ensures gives { Gives (λ next. next) result (at param.now.span ((11, is_visible scope.old param.now.name) ∷ (12, is_none (declarable param.now.ty)) ∷ [])) (suc number) }
-    ensures shown { OnOk result (scope.new ≡ with_local param.now.name (record { number = number; ty = param.now.ty }) scope.old) }
-    ensures listed { OnOk result (map variable_of vars.new.items ≡ map variable_of vars.old.items ++ declared param.now.name param.now.ty ∷ []) }
+    ensures gives { Gives (λ next. next) result
+        (at param.now.span ((11, is_visible scope.old param.now.name)
+        ∷ (12, is_none (declarable param.now.ty)) ∷ [])) (suc number) }
+    ensures shown { OnOk result
+        (scope.new ≡ with_local param.now.name
+        (record { number = number; ty = param.now.ty }) scope.old) }
+    ensures listed { OnOk result (map variable_of vars.new.items ≡ map variable_of vars.old.items
+        ++ declared param.now.name param.now.ty ∷ []) }
 {
     check_parameter(scope, param)?;
     let local = Local {
@@ -67,7 +76,11 @@ fn read_parameter(
     Ok(number + 1)
 }
 
-/// More parameters, of which the first has this number. What is returned is the number behind them.
+/// Adds parameters, of which the first has the number `first`, and returns the next number.
+///
+/// # Errors
+///
+/// `Fault` with the first static error in the parameters, or `Memory`.
 pub fn read_parameters(
     alloc: Global,
     scope: &mut Scope,
@@ -76,9 +89,11 @@ pub fn read_parameters(
     params: &[Param],
 ) -> Result<u32, ResolveStop>
     requires { first + length params.now < 2 ^ 32 }
-    ensures gives { Gives (λ next. next) result (parameters_findings first scope.old params.now) (first + length params.now) }
+    ensures gives { Gives (λ next. next) result (parameters_findings first scope.old params.now)
+        (first + length params.now) }
     ensures shown { OnOk result (scope.new ≡ behind_parameters first scope.old params.now) }
-    ensures listed { OnOk result (map variable_of vars.new.items ≡ map variable_of vars.old.items ++ parameters params.now) }
+    ensures listed { OnOk result (map variable_of vars.new.items ≡ map variable_of vars.old.items
+        ++ parameters params.now) }
 {
     let mut next = first;
     for param in params {

@@ -6,6 +6,5 @@ use Rattle.std.proofs.Common.{map, ◌≡◌}
 use Rattle.std.specs.Prelude.{option_map}
 use Rattle.std.specs.Vec.Iter.{into_iter_items}
 
--- The clauses so far joined with those that are left.
 abbrev pub invariant-loop-one : goal.invariant-loop-one
 invariant-loop-one l = joined_behind l.co (option_map form_of l.joined) (map form_of (into_iter_items l.one-iterator)) ≡ clause l.co (map form_of l.fn.all.items)

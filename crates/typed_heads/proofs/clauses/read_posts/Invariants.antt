@@ -5,7 +5,8 @@ use Rattle.typed_heads.proofs.PreAndPost.{posts}
 use Rattle.typed_heads.proofs.clauses.read_posts.Given as goal
 use Rattle.std.proofs.Common.{map, ◌+◌, ◌≡◌}
 
--- The number behind the fronts that are left is the one behind all.
+-- The clauses so far have been read, and the numbers of the remaining quantifiers end where those
+-- of all do.
 abbrev pub invariant-loop-e : goal.invariant-loop-e
 invariant-loop-e l = record {
   kept : l.scope ≡ l.fn.scope;

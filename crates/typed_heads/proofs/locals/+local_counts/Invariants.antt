@@ -2,7 +2,7 @@ use Rattle.typed_heads.proofs.LocalsLeft.{arm_locals_left, locals_left}
 use Rattle.typed_heads.proofs.locals.+local_counts.Given as goal
 use Rattle.std.proofs.Common.{◌+◌, ◌≡◌}
 
--- What is counted and what is left are the whole.
+-- The variables counted so far and those from the index on are all.
 abbrev pub invariant-count_block-loop-one : goal.invariant-count_block-loop-one
 invariant-count_block-loop-one l = l.count + locals_left l.statements l.one-index ≡ locals_left l.statements 0
 
