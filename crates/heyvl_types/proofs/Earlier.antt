@@ -1,4 +1,4 @@
--- The first procedure of a name, and whether one stands before a place.
+-- The first procedure with a name, and whether one comes before an index.
 use Rattle.heyvl_syntax.specs.Procedures.{Procedure}
 use Rattle.typed_expressions.specs.Signatures.{Called, Signature, called, find_call, signature, with_signature, with_signatures}
 use Rattle.heyvl_types.specs.internal.Earlier.{is_before}
@@ -11,7 +11,7 @@ use Rattle.std.specs.Option.{option_or}
 use Rattle.std.specs.Prelude.{if◌then◌else◌, nat_lt, suc, zero, ◌||◌}
 use Rattle.std.specs.Str.{bytes_eq}
 
--- The first of these procedures that has a name; the first of all has the number n.
+-- The first of the procedures with the name `x`; the first of all has the number `n`.
 abbrev pub first_named : ℕ → List Procedure → List ℕ → Option Signature
 first_named n [] x = None
 first_named n (p ∷ ps) x = if bytes_eq x p.name then Some (signature n p) else first_named (suc n) ps x

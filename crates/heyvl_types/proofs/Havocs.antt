@@ -1,4 +1,4 @@
--- Acts in a row, and those of a havoc, as far as they are made.
+-- Lists of acts, and the acts of a havoc built so far.
 use Rattle.heyvl_types.proofs.Rests.{rest_next}
 use Rattle.heyvl_acts.specs.Acts.{Act, Acts, join}
 use Rattle.heyvl_acts.specs.PlainActs.{act_of, acts_of}

@@ -23,7 +23,7 @@ pub arms_any : (xs : List Arm) → arms_bind (arms xs) ≡ list_any binds_arm xs
 arms_any [] = refl
 arms_any (x ∷ xs) = ap (λ r. binds_arm x || r) (arms_any xs)
 
--- The rest is the first elements of the list; none behind it passes the test.
+-- `rest` is the beginning of the list, and no element after it passes the test.
 pub record FreeBehind {X : Type 0} (p : X → Bool) (all rest : List X) : Type 0 where
   pub behind : List X
   pub whole : all ≡ rest ++ behind

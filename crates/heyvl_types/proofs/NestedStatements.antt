@@ -1,4 +1,4 @@
--- What an if, a pick and a loop give, from what their parts give.
+-- The answers on an `if`, a choice of two blocks and a loop, from those on their parts.
 use Rattle.heyvl_syntax.specs.Expressions.{Expression}
 use Rattle.heyvl_syntax.specs.Statements as text
 use Rattle.heyvl_syntax.specs.Statements.{Block, LoopRule, Statement}
@@ -32,7 +32,7 @@ nothing_both xs ys e h = ap (λ r. r ++ ys) e ∙ h
 pub listed_both : (xs ys zs a b : List Variable) → ys ≡ xs ++ a → zs ≡ ys ++ b → zs ≡ xs ++ (a ++ b)
 listed_both xs ys zs a b e h = h ∙ (ap (λ r. r ++ b) e ∙ append_assoc xs a b)
 
--- ---- An if
+-- ---- An `if`
 
 pub if_gives : (h : Setting) (called : Called) (bound inner : Bool) (vs us : List VarInfo) (m j : ℕ) (sc tc : Scope) (xs : text.Arms) (b : Block) (s : Span) (made : Arms) (acts : Acts) → inner ≡ (bound || block_binds b) → (arms_findings h called inner (length vs) sc xs ≡ []) × (made ≡ arms_acts h called (length vs) m sc xs) → map variable_of us ≡ map variable_of vs ++ locals_of_arms xs → tc ≡ sc → j ≡ m + loops_of_arms xs → (block_findings h called bound (length us) tc b ≡ []) × (acts ≡ block_acts h called (length us) j tc b) → (statement_findings h called bound (length vs) sc (Statement.branch xs b s) ≡ []) × (Acts.next (Act.ifs made acts s) Acts.done ≡ statement_acts h called (length vs) m sc (Statement.branch xs b s))
 if_gives h called bound inner vs us m j sc tc xs b s made acts o f l t p g =
@@ -41,7 +41,7 @@ if_gives h called bound inner vs us m j sc tc xs b s made acts o f l t p g =
       ap (λ x. Acts.next (Act.ifs x acts s) Acts.done) f.1 ∙ ap (λ x. Acts.next (Act.ifs (arms_acts h called (length vs) m sc xs) x s) Acts.done) (g.1 ∙ (ap (λ x. block_acts h called (length us) j x b) t ∙ (ap (λ x. block_acts h called x j sc b) n ∙ ap (λ x. block_acts h called (length vs + length (locals_of_arms xs)) x sc b) p))),
     )
 
--- ---- A pick
+-- ---- A choice of two blocks
 
 pub pick_gives : (h : Setting) (called : Called) (bound inner : Bool) (vs us : List VarInfo) (m j : ℕ) (sc tc : Scope) (up : Bool) (a b : Block) (s : Span) (left right : Acts) → inner ≡ (bound || block_binds b) → (block_findings h called inner (length vs) sc a ≡ []) × (left ≡ block_acts h called (length vs) m sc a) → map variable_of us ≡ map variable_of vs ++ locals_of_block a → tc ≡ sc → j ≡ m + loops_of_block a → (block_findings h called bound (length us) tc b ≡ []) × (right ≡ block_acts h called (length us) j tc b) → (statement_findings h called bound (length vs) sc (Statement.pick up a b s) ≡ []) × (Acts.next (Act.pick up left right s) Acts.done ≡ statement_acts h called (length vs) m sc (Statement.pick up a b s))
 pick_gives h called bound inner vs us m j sc tc up a b s left right o f l t p g =
@@ -59,7 +59,7 @@ loop_stops_body h called bound n sc rs g b s e d q none given =
     let own = at s (loop_rules n sc rs (block_is_rankable b)) in
     stops_first acts_view acts_view e (head ++ body) own q q (stops_second acts_view acts_view e head body d q none given)
 
--- ---- Whether a check against the direction may not stand in a part
+-- ---- Whether a check against the direction may occur in a part
 
 pub bound_by_first : (b inner rest : Bool) → b ≡ true → inner ≡ b → inner ≡ (b || rest)
 bound_by_first b inner rest e h = h ∙ (e ∙ ap (λ x. x || rest) (sym e))

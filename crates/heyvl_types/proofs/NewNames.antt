@@ -1,4 +1,4 @@
--- A declaration without a finding is of a name that isn't visible.
+-- The name of a declaration without findings is not visible before it.
 use Rattle.static_rules.proofs.exported.Findings.{all_kept, back_none}
 use Rattle.typed_expressions.specs.Findings.{at}
 use Rattle.typed_expressions.specs.Scopes.{Scope, is_visible}

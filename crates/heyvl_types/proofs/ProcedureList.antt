@@ -20,7 +20,7 @@ use Rattle.typed_expressions.specs.declared.stops.ResolveStop.{ResolveStop}
 abbrev names : List Procedure → ℕ → List (List ℕ)
 names ps k = map (λ p. p.name) (take k ps)
 
--- What was read, against the whole: the procedures from k on are left.
+-- The procedures before `k` have been read.
 pub record Reads (ps : List Procedure) (k n : ℕ) (made : List TypedProcedure) : Type 0 where
   pub number : n ≡ k
   pub found : file_findings ps ≡ procedures_findings (called ps) (names ps k) (drop k ps)
@@ -29,7 +29,7 @@ pub record Reads (ps : List Procedure) (k n : ℕ) (made : List TypedProcedure) 
 pub starts : (ps : List Procedure) → Reads ps 0 0 []
 starts ps = record { number = refl; found = refl; same = refl }
 
--- The procedure at a place, with what is asked of its name.
+-- The procedure at the index `k`, and whether an earlier one has its name.
 pub record At (ps : List Procedure) (k : ℕ) (p : Procedure) (named : Bool) : Type 0 where
   pub inside : k < length ps
   pub here : p ≡ get_or ps k p
@@ -42,7 +42,7 @@ stands all k n proc named e lt is h = record {
   asked = h ∙ ap (λ i. is_before i (find_call (called (map procedure all)) proc.name)) e ∙ earlier_named proc.name k (map procedure all);
 }
 
--- The procedure at a place has few parts, where each has.
+-- The procedure at an index has few parts if all have.
 pub few_parts_at : (all : List Proc) (k : ℕ) (proc : Proc) → k < length all → proc ≡ get_or all k proc → HaveFewParts (map procedure all) → HasFewParts (procedure proc)
 few_parts_at [] k proc lt is h = absurd (omega (arith, lt))
 few_parts_at (x ∷ xs) zero proc lt is h = subst (λ p. HasFewParts (procedure p)) (sym is) h.0

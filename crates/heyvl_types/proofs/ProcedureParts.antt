@@ -1,15 +1,15 @@
--- The parts of a procedure: what is found against them, and where its variables stand.
+-- The parts of a procedure: their findings, and the indices of their variables.
 use Rattle.heyvl_acts.specs.Acts.{Variable}
 use Rattle.std.proofs.Common.{List, [], ap, append_assoc, drop, length, refl, sym, take, ◌+◌, ◌++◌, ◌∙◌, ◌≡◌, ◌∷◌, ℕ}
 use Rattle.std.proofs.Math.Seq.{drop-append-add, drop-append_seam, take-append_seam}
 use Rattle.typed_expressions.proofs.exported.Parts.{behind, first_in, stops, stops_at, tells_stop}
 use Rattle.typed_expressions.specs.Findings.{Finding}
 
--- Name, head, clauses, body and the procedure's own node.
+-- The findings of the name, the head, the clauses, and the body with the size.
 pub regroup : (a b c d e f g h : List Finding) → a ++ b ++ c ++ d ++ e ++ f ++ g ++ h ≡ (a ++ b) ++ ((c ++ d) ++ ((e ++ f) ++ (g ++ h)))
 regroup a b c d e f g h = simp append_assoc
 
--- Of all variables the inputs, the outputs and the others.
+-- The inputs, the outputs and the other variables among all.
 pub the_inputs : (n : ℕ) (xs ys zs : List Variable) → n ≡ length xs → take n ((xs ++ ys) ++ zs) ≡ xs
 the_inputs n xs ys zs e = ap (λ m. take m ((xs ++ ys) ++ zs)) e ∙ ap (take (length xs)) (append_assoc xs ys zs) ∙ take-append_seam xs (ys ++ zs)
 

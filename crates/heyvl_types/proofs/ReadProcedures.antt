@@ -1,4 +1,4 @@
--- How the answers on the parts of a procedure make up the answer on the whole.
+-- The answer on a procedure, from the answers on its parts.
 use Rattle.heylo_formula.specs.Formula.{Form}
 use Rattle.heyvl_syntax.specs.Procedures.{Procedure}
 use Rattle.heyvl_syntax.specs.declared.procedures.Param.{Param}
@@ -55,7 +55,7 @@ from_head called named p h = from_name called named p ∙ behind (name_part name
 from_clauses : (called : Called) (named : Bool) (p : Procedure) → name_part named p ≡ [] → head_part p ≡ [] → procedure_findings called named p ≡ behind_head called p
 from_clauses called named p h i = from_head called named p h ∙ behind (head_part p) (behind_head called p) i
 
--- What is read of a procedure's head, where nothing is found there.
+-- The result of reading a head without findings.
 pub record HeadIs (named : Bool) (p : Procedure) (n : ℕ) (inner all : Scope) : Type 0 where
   pub named_well : name_part named p ≡ []
   pub kept : head_part p ≡ []
@@ -78,7 +78,7 @@ acts_with h called p n all e g i = cc
 from_own : (called : Called) (named : Bool) (p : Procedure) (n m : ℕ) (inner all : Scope) (h : Setting) (bound : Bool) → HeadIs named p n inner all → clauses_part n inner all p ≡ [] → h ≡ setting p → bound ≡ has_quantified_post p → m ≡ arity p → body_part h called bound m all p ≡ [] → procedure_findings called named p ≡ own_part called p
 from_own called named p n m inner all h bound r none e f g empty = from_body called named p n inner all r none ∙ behind (body_part (setting p) called (has_quantified_post p) (arity p) (head_scope p) p) (own_part called p) (body_with h called bound p m all e f g r.scope ∙ empty)
 
--- ---- Stops
+-- ---- Errors
 
 pub bad_name : {B D : Type 0} (w : B → D) (e : ResolveStop) (called : Called) (named : Bool) (p : Procedure) (d : D) → TellsFirst (Err e) (name_part named p) → Gives w (Err e) (procedure_findings called named p) d
 bad_name w e called named p d h = stops_at w w e (name_part named p ++ (head_part p ++ behind_head called p)) (procedure_findings called named p) d d (from_name called named p) (tells_stop w e (name_part named p) (head_part p ++ behind_head called p) d h)
@@ -92,7 +92,7 @@ bad_clauses v w e called named p n inner all c d r h = stops_at w w e (clauses_p
 pub bad_body : {A B C D : Type 0} (v : A → C) (w : B → D) (e : ResolveStop) (called : Called) (named : Bool) (p : Procedure) (n m : ℕ) (inner all : Scope) (h : Setting) (bound : Bool) (c : C) (d : D) → HeadIs named p n inner all → clauses_part n inner all p ≡ [] → h ≡ setting p → bound ≡ has_quantified_post p → m ≡ arity p → Gives v (Err e) (body_part h called bound m all p) c → Gives w (Err e) (procedure_findings called named p) d
 bad_body v w e called named p n m inner all h bound c d r none hs bs ms g = stops_at w w e (body_part h called bound m all p ++ own_part called p) (procedure_findings called named p) d d (from_body called named p n inner all r none ∙ ap (λ l. l ++ own_part called p) (body_with h called bound p m all hs bs ms r.scope)) (stops v w e (body_part h called bound m all p) (own_part called p) c d g)
 
--- ---- The procedure's own node
+-- ---- The procedure itself
 
 is_large : (called : Called) (p : Procedure) (n vars : ℕ) (acts : Option Acts) → n ≡ arity p → vars ≡ first_quantified p + length (fronts_variables p.posts) → acts ≡ body_acts (setting p) called (arity p) (head_scope p) p.body → is_larger p n vars acts ≡ is_too_large called p
 is_large called p n vars acts e f g = ap (λ i. is_larger p i vars acts) e ∙ ap (λ i. is_larger p (arity p) i acts) f ∙ ap (λ l. is_larger p (arity p) (first_quantified p + length (fronts_variables p.posts)) l) g
@@ -134,7 +134,7 @@ same_procedure called p inputs outputs vars pre post body loops ei eo ev epre ep
     let c : drop (inputs + outputs) vars ≡ locals_of_body p.body ++ fronts_variables p.posts = ap (drop (inputs + outputs)) ev ∙ the_locals inputs outputs (parameters p.inputs) (parameters p.outputs) (locals_of_body p.body ++ fronts_variables p.posts) n m in
     cc
 
--- What the parts of a procedure were read to, where nothing is found against them.
+-- The results of reading the parts of a procedure without findings.
 pub record PartsAre (called : Called) (named : Bool) (p : Procedure) (inputs outputs n m : ℕ) (inner all : Scope) (h : Setting) (bound : Bool) (vars : List VarInfo) (pres posts : List Form) (body : Option Acts) (loops : ℕ) : Type 0 where
   pub head : HeadIs named p n inner all
   pub inputs_are : inputs ≡ length p.inputs

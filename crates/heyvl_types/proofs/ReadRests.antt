@@ -1,4 +1,4 @@
--- Blocks and arms that the program holds, read as far as their rests.
+-- The program's blocks and arms, read up to a rest.
 use Rattle.heylo_formula.specs.Formula.{Cond}
 use Rattle.heylo_formula.specs.declared.forms.Cond as C
 use Rattle.heyvl_acts.specs.Acts.{Acts, Arms}
@@ -31,11 +31,11 @@ use Rattle.typed_expressions.specs.Values.{condition}
 use Rattle.typed_expressions.specs.declared.demands.Demand.{Demand}
 use Rattle.typed_expressions.specs.declared.stops.ResolveStop.{ResolveStop}
 
--- The next statement is one that is left.
+-- The rest begins with the next statement.
 pub block_at : (h : Setting) (called : Called) (bound : Bool) (ws : List VarInfo) (k : ℕ) (wsc : Scope) (xs : List Stmt) (acts : Acts) (vs : List VarInfo) (m : ℕ) (sc : Scope) (i : ℕ) (x : Stmt) → BlockRead h called bound ws k wsc (block xs) acts vs m sc (block (drop i xs)) → i < length xs → x ≡ get_or xs i x → BlockRead h called bound ws k wsc (block xs) acts vs m sc (Block.next (statement x) (block (drop (i + 1) xs)))
 block_at h called bound ws k wsc xs acts vs m sc i x b lt is = subst (λ r. BlockRead h called bound ws k wsc (block xs) acts vs m sc r) (block_next xs i x lt is) b
 
--- The next statement's variables and loops are in range, where those of the block are.
+-- The variables and loops of the next statement are in range if those of the block are.
 pub statement_in_range : (h : Setting) (called : Called) (bound : Bool) (ws : List VarInfo) (k : ℕ) (wsc : Scope) (xs : List Stmt) (acts : Acts) (vs : List VarInfo) (m : ℕ) (sc : Scope) (i : ℕ) (x : Stmt) → BlockRead h called bound ws k wsc (block xs) acts vs m sc (block (drop i xs)) → i < length xs → x ≡ get_or xs i x → length ws + length (locals_of_block (block xs)) < 2 ^ 32 → k + loops_of_block (block xs) < 2 ^ 32 → (length vs + length (locals (statement x)) < 2 ^ 32) × (m + loops (statement x) < 2 ^ 32)
 statement_in_range h called bound ws k wsc xs acts vs m sc i x b lt is few some =
     let r = block_at h called bound ws k wsc xs acts vs m sc i x b lt is in
@@ -51,7 +51,7 @@ block_more h called bound ws k wsc xs made more vs m sc i x inner us j tc b lt i
 pub block_ends : (h : Setting) (called : Called) (bound : Bool) (ws : List VarInfo) (k : ℕ) (wsc : Scope) (xs : List Stmt) (acts : Acts) (vs : List VarInfo) (m : ℕ) (sc : Scope) (i : ℕ) → BlockRead h called bound ws k wsc (block xs) acts vs m sc (block (drop i xs)) → length xs ≤ i → BlockRead h called bound ws k wsc (block xs) acts vs m sc Block.done
 block_ends h called bound ws k wsc xs acts vs m sc i b over = subst (λ r. BlockRead h called bound ws k wsc (block xs) acts vs m sc r) (block_end xs i over) b
 
--- What a block that is read whole gives.
+-- The answer on a block without a rest.
 pub block_gives : (h : Setting) (called : Called) (bound : Bool) (ws : List VarInfo) (k : ℕ) (wsc : Scope) (whole : Block) (acts : Acts) (vs : List VarInfo) (m : ℕ) (sc : Scope) → BlockRead h called bound ws k wsc whole acts vs m sc Block.done → (block_findings h called bound (length ws) wsc whole ≡ []) × (acts ≡ block_acts h called (length ws) k wsc whole)
 block_gives h called bound ws k wsc whole acts vs m sc b = (b.found, sym (b.made ∙ join_done acts))
 
@@ -70,7 +70,7 @@ arms_more h called bound ws k sc xs made one vs m i x inner us j b lt is o g l c
     subst (λ a. ArmsRead h called bound ws k sc (arms xs) a us j (arms (drop (i + 1) xs))) (sym (map-append arm_of made (one ∷ [])))
     (arms_step h called bound ws k sc (arms xs) (map arm_of made) vs m (expression x.guard) (block x.body.items) (arms (drop (i + 1) xs)) (arm_of one) us j (arms_at h called bound ws k sc xs (map arm_of made) vs m i x b lt is) (ap (λ t. closed_findings Demand.Truth (length vs) sc (expression x.guard) ++ block_findings h called t (length vs) sc (block x.body.items)) (sym o) ∙ g.0) g.1 l c)
 
--- A stop in the next arm is one of all.
+-- An error in the next arm is one in all arms.
 pub arms_stop : (h : Setting) (called : Called) (bound : Bool) (ws : List VarInfo) (k : ℕ) (sc : Scope) (xs : List Arm) (done : List (Cond × Acts)) (vs : List VarInfo) (m : ℕ) (i : ℕ) (x : Arm) (inner : Bool) (e : ResolveStop) (q : Cond × Acts) (d : Arms) → ArmsRead h called bound ws k sc (arms xs) done vs m (arms (drop i xs)) → i < length xs → x ≡ get_or xs i x → inner ≡ (bound || arms_bind (arms (drop (i + 1) xs))) → Gives arm_of (Err e) (closed_findings Demand.Truth (length vs) sc (expression x.guard) ++ block_findings h called inner (length vs) sc (block x.body.items)) q → Gives arms_view (Err e) (arms_findings h called bound (length ws) sc (arms xs)) d
 arms_stop h called bound ws k sc xs done vs m i x inner e q d b lt is o g =
     let rest = arms (drop (i + 1) xs) in

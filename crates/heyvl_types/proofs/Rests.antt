@@ -1,4 +1,4 @@
--- What is true of the rest of a list, one step on.
+-- Facts about the rest of a list, one step further.
 use Rattle.heyvl_syntax.specs.Statements.{arms, block, guarded, statement}
 use Rattle.heyvl_syntax.specs.Statements as text
 use Rattle.heyvl_syntax.specs.declared.statements.Arm.{Arm}
@@ -6,7 +6,6 @@ use Rattle.heyvl_syntax.specs.declared.statements.Stmt.{Stmt}
 use Rattle.std.proofs.Common.{List, ap, drop, get_or, length, sym, ◌+◌, ◌<◌, ◌∙◌, ◌≡◌, ◌∷◌, ◌≤◌, ℕ}
 use Rattle.std.proofs.lemmas.List.{at_drop_more, drop_all}
 
--- The rest of a list begins with the visited element.
 pub rest_next : {X Y : Type 0} (f : List X → Y) (xs : List X) (i : ℕ) (x : X) → i < length xs → x ≡ get_or xs i x → f (drop i xs) ≡ f (x ∷ drop (i + 1) xs)
 rest_next f xs i x lt is = at_drop_more f xs i x lt ∙ ap (λ y. f (y ∷ drop (i + 1) xs)) (sym is)
 

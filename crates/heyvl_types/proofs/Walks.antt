@@ -1,4 +1,4 @@
--- Blocks and arms, read as far as their rests.
+-- Blocks and arms, read up to a rest.
 use Rattle.heylo_formula.specs.Formula.{Cond}
 use Rattle.heyvl_syntax.specs.Expressions.{Expression}
 use Rattle.heyvl_syntax.specs.Statements.{Block, Statement}
@@ -19,11 +19,11 @@ use Rattle.heyvl_acts.specs.declared.typed_trees.VarInfo.{VarInfo}
 use Rattle.std.proofs.Common.{Bool, List, [], ap, append_assoc, arith, length, map, refl, sym, take, ◌++◌, ◌+◌, ◌||◌, ◌∙◌, ◌≡◌, ◌∷◌, ℕ}
 use Rattle.std.proofs.lemmas.List.{length-append, length-map}
 
--- The number of variables after more of them.
+-- The number of variables after further ones.
 pub counted : (vs ws : List VarInfo) (ls : List Variable) → map variable_of ws ≡ map variable_of vs ++ ls → length ws ≡ length vs + length ls
 counted vs ws ls e = sym (length-map ws variable_of) ∙ (ap length e ∙ (length-append (map variable_of vs) ls ∙ ap (λ n. n + length ls) (length-map vs variable_of)))
 
--- Variables that are there, and those that come.
+-- The numbers of present and further variables.
 pub as_many : (ws vs : List VarInfo) (a b c : List Variable) → map variable_of ws ++ a ≡ map variable_of vs ++ (b ++ c) → length ws + length a ≡ length vs + (length b + length c)
 as_many ws vs a b c e =
     let l = ap length e in
@@ -36,7 +36,7 @@ as_many ws vs a b c e =
 
 -- ---- Scopes
 
--- The first variables stay where further ones come.
+-- The first variables remain when others are added.
 pub still_first : (a b c : Scope) → take (length a) b ≡ a → take (length b) c ≡ b → take (length a) c ≡ a
 still_first [] b c h k = refl
 still_first (x ∷ a) [] c h k = absurd (cc)
@@ -50,7 +50,8 @@ still_first (x ∷ a) (y ∷ b) (z ∷ c) h k =
 
 -- ---- Blocks
 
--- A whole block that is read as far as the rest: what is found in the whole is found in the rest, and so on.
+-- The block `whole` is read up to `rest`: the findings, acts, variables and loops of `whole` are
+-- those so far and those of `rest`.
 pub record BlockRead (h : Setting) (called : Called) (bound : Bool) (ws : List VarInfo) (k : ℕ) (whole_scope : Scope) (whole : Block) (acts : Acts) (vs : List VarInfo) (m : ℕ) (sc : Scope) (rest : Block) : Type 0 where
   pub found : block_findings h called bound (length ws) whole_scope whole ≡ block_findings h called bound (length vs) sc rest
   pub made : block_acts h called (length ws) k whole_scope whole ≡ join acts (block_acts h called (length vs) m sc rest)
@@ -58,7 +59,7 @@ pub record BlockRead (h : Setting) (called : Called) (bound : Bool) (ws : List V
   pub numbered : k + loops_of_block whole ≡ m + loops_of_block rest
   pub kept : take (length whole_scope) sc ≡ whole_scope
 
--- One statement more is read.
+-- One more statement is read.
 pub block_step : (h : Setting) (called : Called) (bound : Bool) (ws : List VarInfo) (k : ℕ) (wsc : Scope) (whole : Block) (acts : Acts) (vs : List VarInfo) (m : ℕ) (sc : Scope) (s : Statement) (rest : Block) (more : Acts) (us : List VarInfo) (j : ℕ) (tc : Scope) → BlockRead h called bound ws k wsc whole acts vs m sc (Block.next s rest) → statement_findings h called (bound || block_binds rest) (length vs) sc s ≡ [] → more ≡ statement_acts h called (length vs) m sc s → tc ≡ behind (length vs) sc s → take (length sc) tc ≡ sc → map variable_of us ≡ map variable_of vs ++ locals s → j ≡ m + loops s → BlockRead h called bound ws k wsc whole (join acts more) us j tc rest
 block_step h called bound ws k wsc whole acts vs m sc s rest more us j tc b f a t p l c =
     let n = counted vs us (locals s) l in
@@ -72,12 +73,12 @@ block_step h called bound ws k wsc whole acts vs m sc s rest more us j tc b f a 
 
 -- ---- Arms
 
--- Arms, and further ones behind them.
+-- Arms, then further ones.
 abbrev pub arms_then : List (Cond × Acts) → Arms → Arms
 arms_then [] rest = rest
 arms_then (x ∷ xs) rest = Arms.arm x.0 x.1 (arms_then xs rest)
 
--- Arms that are read as far as the rest.
+-- The arms `whole` are read up to `rest`.
 pub record ArmsRead (h : Setting) (called : Called) (bound : Bool) (ws : List VarInfo) (k : ℕ) (sc : Scope) (whole : text.Arms) (done : List (Cond × Acts)) (vs : List VarInfo) (m : ℕ) (rest : text.Arms) : Type 0 where
   pub found : arms_findings h called bound (length ws) sc whole ≡ arms_findings h called bound (length vs) sc rest
   pub made : arms_acts h called (length ws) k sc whole ≡ arms_then done (arms_acts h called (length vs) m sc rest)
@@ -92,7 +93,7 @@ arms_then_one : (xs : List (Cond × Acts)) (x : Cond × Acts) (rest : Arms) → 
 arms_then_one [] x rest = refl
 arms_then_one (y ∷ xs) x rest = ap (λ r. Arms.arm y.0 y.1 r) (arms_then_one xs x rest)
 
--- One arm more is read.
+-- One more arm is read.
 pub arms_step : (h : Setting) (called : Called) (bound : Bool) (ws : List VarInfo) (k : ℕ) (sc : Scope) (whole : text.Arms) (done : List (Cond × Acts)) (vs : List VarInfo) (m : ℕ) (g : Expression) (b : Block) (rest : text.Arms) (x : Cond × Acts) (us : List VarInfo) (j : ℕ) → ArmsRead h called bound ws k sc whole done vs m (text.Arms.arm g b rest) → closed_findings Demand.Truth (length vs) sc g ++ block_findings h called (bound || arms_bind rest) (length vs) sc b ≡ [] → x ≡ (condition (elaborate (length vs) sc g), block_acts h called (length vs) m sc b) → map variable_of us ≡ map variable_of vs ++ locals_of_block b → j ≡ m + loops_of_block b → ArmsRead h called bound ws k sc whole (done ++ x ∷ []) us j rest
 arms_step h called bound ws k sc whole done vs m g b rest x us j r f a l c =
     let n = counted vs us (locals_of_block b) l in

@@ -1,12 +1,15 @@
-//! What stands in statements: whether a value is bound in them, and whether they may stand under a ranking.
+//! Properties of statements: whether they choose arbitrary values, and whether a loop with a
+//! ranking may have them in its body.
 
 ghost use Rattle.heyvl_syntax.specs.Statements.{arms, block, optional_right, right_side, statement};
-ghost use Rattle.static_rules.specs.StatementRules.{arms_are_rankable, arms_bind, binds, binds_value, block_binds, block_is_rankable, calls_value, is_call, is_rankable};
+ghost use Rattle.static_rules.specs.StatementRules.{arms_are_rankable, arms_bind, binds};
+ghost use Rattle.static_rules.specs.StatementRules.{binds_value, block_binds, block_is_rankable};
+ghost use Rattle.static_rules.specs.StatementRules.{calls_value, is_call, is_rankable};
 ghost use Rattle.std.specs.Prelude.{◌≡◌, ◌<◌, drop, nat_lt, ℕ};
 
 use heyvl_syntax::{Arm, Right, Stmt};
 
-/// Whether a right side is a call.
+/// Returns true for a call.
 fn is_call(right: &Right) -> bool
     ensures { result ≡ is_call (right_side right.now) }
 {
@@ -16,7 +19,7 @@ fn is_call(right: &Right) -> bool
     }
 }
 
-/// Whether a declaration gives an arbitrary value.
+/// Returns true if a declaration chooses an arbitrary value: it has no right side, or a call.
 fn binds_value(right: &Option<Right>) -> bool
     ensures { result ≡ binds_value (optional_right right.now) }
 {
@@ -26,7 +29,7 @@ fn binds_value(right: &Option<Right>) -> bool
     }
 }
 
-/// Whether a declaration gives the value of a call.
+/// Returns true if the right side of a declaration is a call.
 fn calls_value(right: &Option<Right>) -> bool
     ensures { result ≡ calls_value (optional_right right.now) }
 {
@@ -36,7 +39,7 @@ fn calls_value(right: &Option<Right>) -> bool
     }
 }
 
-/// Whether a havoc, a declaration without a value, a loop or a call stands in a statement.
+/// Returns true if a statement has a havoc, a declaration without a value, a loop or a call in it.
 #[cycle(binding)]
 fn binds(one: &Stmt) -> bool
     ensures { result ≡ binds (statement one.now) }
@@ -51,7 +54,7 @@ fn binds(one: &Stmt) -> bool
     }
 }
 
-/// The same of a block.
+/// Returns true if a statement of the block `binds`.
 #[cycle(binding)]
 pub(crate) fn block_binds(statements: &[Stmt]) -> bool
     ensures { result ≡ block_binds (block statements.now) }
@@ -64,7 +67,7 @@ pub(crate) fn block_binds(statements: &[Stmt]) -> bool
     false
 }
 
-/// The same of arms.
+/// Returns true if a statement in the blocks of the arms `binds`.
 #[cycle(binding)]
 fn arms_bind(all: &[Arm]) -> bool
     ensures { result ≡ arms_bind (arms all.now) }
@@ -77,7 +80,7 @@ fn arms_bind(all: &[Arm]) -> bool
     false
 }
 
-/// How many statements a block has up to the last one that binds.
+/// Returns the number of statements of a block up to the last one that `binds`.
 pub(crate) fn binding_statements(statements: &[Stmt]) -> usize
     ensures { (i : ℕ) → block_binds (block (drop i statements.now)) ≡ nat_lt i result }
 {
@@ -91,7 +94,7 @@ pub(crate) fn binding_statements(statements: &[Stmt]) -> usize
     0
 }
 
-/// How many arms there are up to the last one in whose block something binds.
+/// Returns the number of arms up to the last one with a statement that `binds`.
 pub(crate) fn binding_arms(all: &[Arm]) -> usize
     ensures { (i : ℕ) → arms_bind (arms (drop i all.now)) ≡ nat_lt i result }
 {
@@ -105,7 +108,8 @@ pub(crate) fn binding_arms(all: &[Arm]) -> usize
     0
 }
 
-/// Whether a statement may stand under a ranking: no loop, call, check or validation stands in it.
+/// Returns true if a statement has no loop, call, check or validation in it, so that a loop with a
+/// ranking may have it in its body.
 #[cycle(ranking)]
 fn is_rankable(one: &Stmt) -> bool
     ensures { result ≡ is_rankable (statement one.now) }
@@ -120,7 +124,7 @@ fn is_rankable(one: &Stmt) -> bool
     }
 }
 
-/// The same of a block.
+/// Returns true if all statements of a block are rankable.
 #[cycle(ranking)]
 pub(crate) fn block_is_rankable(statements: &[Stmt]) -> bool
     ensures { result ≡ block_is_rankable (block statements.now) }
@@ -133,7 +137,7 @@ pub(crate) fn block_is_rankable(statements: &[Stmt]) -> bool
     true
 }
 
-/// The same of arms.
+/// Returns true if all statements in the blocks of the arms are rankable.
 #[cycle(ranking)]
 fn arms_are_rankable(all: &[Arm]) -> bool
     ensures { result ≡ arms_are_rankable (arms all.now) }

@@ -1,11 +1,13 @@
-//! Statements in which others stand, and blocks.
+//! Statements with blocks, and blocks.
 
 ghost use Rattle.heyvl_acts.specs.PlainActs.{arm_of, variable_of};
 ghost use Rattle.heyvl_syntax.specs.Expressions.{expression};
 ghost use Rattle.heyvl_syntax.specs.Statements.{arms, block, statement};
 ghost use Rattle.typed_right_sides.specs.Views.{acts_view, arms_view};
-ghost use Rattle.static_rules.specs.StatementActs.{arms_acts, block_acts, loops as loops_of, loops_of_arms, loops_of_block, statement_acts};
-ghost use Rattle.static_rules.specs.StatementRules.{arms_findings, block_findings, statement_findings};
+ghost use Rattle.static_rules.specs.StatementActs.{arms_acts, block_acts, loops as loops_of};
+ghost use Rattle.static_rules.specs.StatementActs.{loops_of_arms, loops_of_block, statement_acts};
+ghost use Rattle.static_rules.specs.StatementRules.{arms_findings, block_findings};
+ghost use Rattle.static_rules.specs.StatementRules.{statement_findings};
 ghost use Rattle.static_rules.specs.Variables.{behind, locals, locals_of_arms, locals_of_block};
 ghost use Rattle.std.specs.Prelude.{◌++◌, ◌+◌, ◌<◌, ◌^◌, ◌≡◌, OnOk, length, map, take};
 ghost use Rattle.typed_expressions.specs.Answers.{Gives};
@@ -25,7 +27,7 @@ use static_rules::Setting;
 use std::alloc::Global;
 use typed_expressions::{Calls, Demand, ResolveStop, Scope, after, condition, read};
 
-/// What an arm becomes, or the first fault in it.
+/// Returns the condition and the acts of an arm, or the first error in it.
 #[cycle(reading)]
 fn read_arm(
     alloc: Global,
@@ -37,19 +39,29 @@ fn read_arm(
     loops: &mut u32,
     arm: &Arm,
 ) -> Result<(Cond, Vec<Act>), ResolveStop>
-    requires variables { length vars.old.items + length (locals_of_block (block arm.now.body.items)) < 2 ^ 32 }
+    requires variables { length vars.old.items + length (locals_of_block (block arm.now.body.items))
+        < 2 ^ 32 }
     requires loops { loops.old + loops_of_block (block arm.now.body.items) < 2 ^ 32 }
-    ensures gives { Gives arm_of result (closed_findings Demand.Truth (length vars.old.items) scope.old (expression arm.now.guard) ++ block_findings setting calls.now bound (length vars.old.items) scope.old (block arm.now.body.items)) (condition (elaborate (length vars.old.items) scope.old (expression arm.now.guard)), block_acts setting calls.now (length vars.old.items) loops.old scope.old (block arm.now.body.items)) }
+    ensures gives { Gives arm_of result
+        (closed_findings Demand.Truth (length vars.old.items) scope.old (expression arm.now.guard)
+        ++ block_findings setting calls.now bound (length vars.old.items) scope.old
+        (block arm.now.body.items)) (
+          condition (elaborate (length vars.old.items) scope.old (expression arm.now.guard)),
+          block_acts setting calls.now (length vars.old.items) loops.old scope.old
+              (block arm.now.body.items),
+        ) }
     ensures kept { OnOk result (scope.new ≡ scope.old) }
-    ensures listed { OnOk result (map variable_of vars.new.items ≡ map variable_of vars.old.items ++ locals_of_block (block arm.now.body.items)) }
-    ensures numbered { OnOk result (loops.new ≡ loops.old + loops_of_block (block arm.now.body.items)) }
+    ensures listed { OnOk result (map variable_of vars.new.items ≡ map variable_of vars.old.items
+        ++ locals_of_block (block arm.now.body.items)) }
+    ensures numbered { OnOk result
+        (loops.new ≡ loops.old + loops_of_block (block arm.now.body.items)) }
 {
     let guard = read(alloc, scope, next_number(vars), &arm.guard, Demand::Truth)?;
     let body = read_block(alloc, setting, calls, bound, scope, vars, loops, &arm.body)?;
     Ok((condition(guard), body))
 }
 
-/// What arms become, or the first fault in them.
+/// Returns the conditions and the acts of arms, or the first error in them.
 #[cycle(reading)]
 fn read_arms(
     alloc: Global,
@@ -63,9 +75,12 @@ fn read_arms(
 ) -> Result<Vec<(Cond, Vec<Act>)>, ResolveStop>
     requires variables { length vars.old.items + length (locals_of_arms (arms all.now)) < 2 ^ 32 }
     requires loops { loops.old + loops_of_arms (arms all.now) < 2 ^ 32 }
-    ensures gives { Gives arms_view result (arms_findings setting calls.now bound (length vars.old.items) scope.old (arms all.now)) (arms_acts setting calls.now (length vars.old.items) loops.old scope.old (arms all.now)) }
+    ensures gives { Gives arms_view result
+        (arms_findings setting calls.now bound (length vars.old.items) scope.old (arms all.now))
+        (arms_acts setting calls.now (length vars.old.items) loops.old scope.old (arms all.now)) }
     ensures kept { OnOk result (scope.new ≡ scope.old) }
-    ensures listed { OnOk result (map variable_of vars.new.items ≡ map variable_of vars.old.items ++ locals_of_arms (arms all.now)) }
+    ensures listed { OnOk result (map variable_of vars.new.items ≡ map variable_of vars.old.items
+        ++ locals_of_arms (arms all.now)) }
     ensures numbered { OnOk result (loops.new ≡ loops.old + loops_of_arms (arms all.now)) }
 {
     let binding = binding_arms(all);
@@ -78,7 +93,8 @@ fn read_arms(
     Ok(made)
 }
 
-/// What a statement becomes, or the first fault in it. What it declares is visible from here on.
+/// Returns the acts of a statement, or the first error in it. What it declares is visible from here
+/// on.
 #[cycle(reading)]
 fn read_statement(
     alloc: Global,
@@ -92,10 +108,16 @@ fn read_statement(
 ) -> Result<Vec<Act>, ResolveStop>
     requires variables { length vars.old.items + length (locals (statement one.now)) < 2 ^ 32 }
     requires loops { loops.old + loops_of (statement one.now) < 2 ^ 32 }
-    ensures gives { Gives acts_view result (statement_findings setting calls.now bound (length vars.old.items) scope.old (statement one.now)) (statement_acts setting calls.now (length vars.old.items) loops.old scope.old (statement one.now)) }
-    ensures shown { OnOk result (scope.new ≡ behind (length vars.old.items) scope.old (statement one.now)) }
+    ensures gives { Gives acts_view result
+        (statement_findings setting calls.now bound (length vars.old.items) scope.old
+        (statement one.now))
+        (statement_acts setting calls.now (length vars.old.items) loops.old scope.old
+        (statement one.now)) }
+    ensures shown { OnOk result
+        (scope.new ≡ behind (length vars.old.items) scope.old (statement one.now)) }
     ensures kept { OnOk result (take (length scope.old) scope.new ≡ scope.old) }
-    ensures listed { OnOk result (map variable_of vars.new.items ≡ map variable_of vars.old.items ++ locals (statement one.now)) }
+    ensures listed { OnOk result (map variable_of vars.new.items ≡ map variable_of vars.old.items
+        ++ locals (statement one.now)) }
     ensures numbered { OnOk result (loops.new ≡ loops.old + loops_of (statement one.now)) }
 {
     match one {
@@ -133,8 +155,9 @@ fn read_statement(
     }
 }
 
-/// What a block becomes, or the first fault in it. Whether a check against the direction may not stand in it is handed in. Its
-/// variables and loops are numbered from those that are there on.
+/// Returns the acts of a block, or the first error in it. `bound` says that a check against the
+/// direction may not occur in it. Its variables are numbered from the length of `vars` on, and its
+/// loops from `loops` on.
 #[cycle(reading)]
 pub(crate) fn read_block(
     alloc: Global,
@@ -146,11 +169,18 @@ pub(crate) fn read_block(
     loops: &mut u32,
     statements: &[Stmt],
 ) -> Result<Vec<Act>, ResolveStop>
-    requires variables { length vars.old.items + length (locals_of_block (block statements.now)) < 2 ^ 32 }
+    requires variables { length vars.old.items + length (locals_of_block (block statements.now))
+        < 2 ^ 32 }
     requires loops { loops.old + loops_of_block (block statements.now) < 2 ^ 32 }
-    ensures gives { Gives acts_view result (block_findings setting calls.now bound (length vars.old.items) scope.old (block statements.now)) (block_acts setting calls.now (length vars.old.items) loops.old scope.old (block statements.now)) }
+    ensures gives { Gives acts_view result
+        (block_findings setting calls.now bound (length vars.old.items) scope.old
+        (block statements.now))
+        (block_acts setting calls.now (length vars.old.items) loops.old scope.old
+        (block statements.now)) }
     ensures kept { OnOk result (scope.new ≡ scope.old) }
-    ensures declared { OnOk result (map variable_of vars.new.items ≡ map variable_of vars.old.items ++ locals_of_block (block statements.now)) }
+    ensures declared { OnOk result
+        (map variable_of vars.new.items ≡ map variable_of vars.old.items
+        ++ locals_of_block (block statements.now)) }
     ensures numbered { OnOk result (loops.new ≡ loops.old + loops_of_block (block statements.now)) }
 {
     let kept = scope.len();

@@ -1,4 +1,4 @@
-//! Files: the typed procedures of a file, or its first fault.
+//! Files: their typed procedures, or their first error.
 
 ghost use Rattle.heyvl_acts.specs.PlainActs.{procedure_of, procedures_of};
 ghost use Rattle.heyvl_acts.specs.Rules.{Each, IsCounted, MeetsAllRules};
@@ -19,7 +19,7 @@ use resolved_laws::resolved_trees_meet_the_rules;
 use std::alloc::Global;
 use typed_expressions::{Calls, ResolveStop, calls_of};
 
-/// Whether a name calls a procedure before the one with this number.
+/// Returns true if `name` calls a procedure before the one with this number.
 fn is_before(calls: &Calls, number: u32, name: &Name) -> bool
     ensures { result ≡ is_before number (find_call calls.now name.now) }
 {
@@ -29,11 +29,12 @@ fn is_before(calls: &Calls, number: u32, name: &Name) -> bool
     }
 }
 
-/// The typed procedures of a file, or its first static fault.
+/// Returns the typed procedures of a file, or its first static error.
 fn read_procedures(alloc: Global, file: &File) -> Result<Typed, ResolveStop>
     requires few { length file.now.procs.items < 2 ^ 31 }
     requires parts { HaveFewParts (procedures file.now) }
-    ensures gives { Gives procedures_of result (file_findings (procedures file.now)) (resolved (procedures file.now)) }
+    ensures gives { Gives procedures_of result (file_findings (procedures file.now))
+        (resolved (procedures file.now)) }
     ensures counted { IfOk result (λ typed. Each IsCounted typed.procs.items) }
 {
     let calls = calls_of(alloc, &file.procs)?;
@@ -47,13 +48,21 @@ fn read_procedures(alloc: Global, file: &File) -> Result<Typed, ResolveStop>
     Ok(Typed { procs })
 }
 
-/// The typed tree of a file with fewer than 2^31 procedures in which each If has an arm, or its first static fault. Each procedure has fewer
-/// than 2^31 variables and fewer than 2^31 loops. Where there are at most 1,024 procedures, the typed tree meets the static rules.
+/// Returns the typed tree of a file. If the file has at most 1,024 procedures, its typed tree
+/// satisfies the static rules.
+///
+/// The file has fewer than 2^31 procedures, each with fewer than 2^31 variables and fewer than 2^31
+/// loops, and each `if` has an arm.
+///
+/// # Errors
+///
+/// `Fault` with the first static error of the file, or `Memory`.
 pub fn resolve(alloc: Global, file: &File) -> Result<Typed, ResolveStop>
     requires few { length file.now.procs.items < 2 ^ 31 }
     requires parts { HaveFewParts (procedures file.now) }
     requires armed { HasArms (procedures file.now) }
-    ensures gives { Gives procedures_of result (file_findings (procedures file.now)) (resolved (procedures file.now)) }
+    ensures gives { Gives procedures_of result (file_findings (procedures file.now))
+        (resolved (procedures file.now)) }
     ensures counted { IfOk result (λ typed. Each IsCounted typed.procs.items) }
     ensures rules { IfOk result (λ typed. length typed.procs.items ≤ 1024 → MeetsAllRules typed) }
 {

@@ -1,4 +1,5 @@
-//! Typed trees of HeyVL: the static rules of statements, procedures and files, and the typed file that a text becomes.
+//! Typed trees of HeyVL: the typed file of a syntax tree, or its first static error. `AllocError`
+//! means that memory ran out.
 #![tactic(auto)]
 
 mod bindings;

@@ -1,12 +1,13 @@
--- A procedure put together from its parts, whatever they are. The crate's own functions alone speak of it.
+-- A typed procedure from its parts.
 use Rattle.heylo_formula.specs.Formula.{Form}
 use Rattle.heyvl_acts.specs.Acts.{Acts, TypedProcedure, Variable, acts_in}
 use Rattle.heyvl_acts.specs.Count.{count_of}
 use Rattle.heyvl_syntax.specs.Procedures.{Procedure}
 use Rattle.static_rules.specs.Files.{is_wlp}
-use Rattle.std.specs.Prelude.{Bool, List, Option, drop, length, nat_lt, not, take, ◌&&◌, ◌+◌, ◌||◌, ℕ}
+use Rattle.std.specs.Prelude.{Bool, List, Option, drop, length, nat_lt, not, take, ◌&&◌, ◌+◌, ◌||◌}
+use Rattle.std.specs.Prelude.{ℕ}
 
--- Whether a procedure with so many parameters and variables, and with this body, is too large.
+-- Whether a procedure with these numbers of parameters and variables and this body is too large.
 abbrev pub is_larger : Procedure → ℕ → ℕ → Option Acts → Bool
 is_larger p parameters vars body =
     nat_lt 16 parameters
@@ -15,8 +16,10 @@ is_larger p parameters vars body =
     || nat_lt 256 vars
     || nat_lt 1024 (count_of (acts_in body))
 
--- Of the variables so many are inputs, and so many of the next are outputs.
-abbrev pub with_parts : Procedure → ℕ → ℕ → List Variable → Form → Form → Option Acts → ℕ → TypedProcedure
+-- The typed procedure of these parts. Of the variables `vars` the first `inputs` are its inputs,
+-- the next `outputs` its outputs, and the others its local variables.
+abbrev pub with_parts : Procedure → ℕ → ℕ → List Variable → Form → Form → Option Acts → ℕ
+    → TypedProcedure
 with_parts p inputs outputs vars pre post body loops = record {
   name = p.name;
   co = p.co;

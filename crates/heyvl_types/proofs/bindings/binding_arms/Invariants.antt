@@ -2,7 +2,7 @@ use Rattle.heyvl_types.proofs.LastElement.{FreeBehind, binds_arm}
 use Rattle.heyvl_types.proofs.bindings.binding_arms.Given as goal
 use Rattle.std.proofs.Common.{length}
 
--- The rest is the first arms; behind it nothing binds.
+-- No arm after `rest` binds.
 abbrev pub invariant-loop-last : goal.invariant-loop-last
 invariant-loop-last l = FreeBehind binds_arm l.all l.rest
 

@@ -2,7 +2,7 @@ use Rattle.heyvl_types.proofs.LastElement.{FreeBehind, binds_one}
 use Rattle.heyvl_types.proofs.bindings.binding_statements.Given as goal
 use Rattle.std.proofs.Common.{length}
 
--- The rest is the first statements; behind it nothing binds.
+-- No statement after `rest` binds.
 abbrev pub invariant-loop-last : goal.invariant-loop-last
 invariant-loop-last l = FreeBehind binds_one l.statements l.rest
 
