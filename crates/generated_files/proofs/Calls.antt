@@ -1,4 +1,4 @@
--- What a name calls, where one procedure after another is put behind those that calls can name.
+-- The procedure that a name calls, after a procedure is added to the callable ones.
 use Rattle.heyvl_syntax.specs.Procedures.{Procedure}
 use Rattle.std.proofs.Common.{Bool, List, None, Option, Some, [], ap, arith, false, length, refl, true, ◌++◌, ◌+◌, ◌∙◌, ◌∷◌, ◌≡◌, ℕ, suc}
 use Rattle.std.specs.Prelude.{if◌then◌else◌}
@@ -12,7 +12,7 @@ behind_first e es fs y o more = pick (bytes_eq y e.0)
     pick true h = h
     pick false h = more h
 
--- Where the first has the new name all stays as it is.
+-- If the first one has the new name, nothing changes.
 put_behind : (b : Bool) (e : List ℕ × Signature) (es fs : Called) (y : List ℕ) (o : Option Signature) → find_call (e ∷ es) y ≡ o → find_call (e ∷ fs) y ≡ o → find_call (if b then e ∷ es else e ∷ fs) y ≡ o
 put_behind true e es fs y o h g = h
 put_behind false e es fs y o h g = g

@@ -1,4 +1,4 @@
--- Worked rows: the first four lines, and lines with names of more digits.
+-- Worked rows: the first four lines, and lines whose names have more digits.
 use Rattle.generated_files.specs.Texts.{generated_text, line}
 use Rattle.std.proofs.Common.{[], codes, refl, ◌++◌, ◌≡◌}
 use Rattle.std.specs.Fmt.{digits}

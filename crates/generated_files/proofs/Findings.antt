@@ -1,4 +1,4 @@
--- Nothing is found against the trees of the generated lines.
+-- The trees of the generated lines have no findings.
 use Rattle.generated_files.proofs.Spread.{Spots}
 use Rattle.generated_files.proofs.Trees.{call, coin, loop, whole}
 use Rattle.heyvl_num.specs.Gcd.{gcd, gcd_steps}
@@ -22,7 +22,7 @@ pub loop_clean : (called : Called) (x : List ℕ) (s : Spots) → procedure_find
 unfolding literal_value inverse_value literal_quotient zeroʳ ratio gcd gcd_steps leqʳ oneʳ
 loop_clean called x s = refl
 
--- What a call sees of a loop's procedure.
+-- The signature of a loop's procedure.
 abbrev pub counter : ℕ → Signature
 counter n = record { number = n; co = true; inputs = types.UInt ∷ []; outputs = types.UInt ∷ []; quantified = false }
 

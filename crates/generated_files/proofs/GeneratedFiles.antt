@@ -1,4 +1,4 @@
--- What holds of generated texts, line by line.
+-- The facts about generated texts, line by line.
 use Rattle.generated_files.proofs.Calls.{found_stays, new_found, none_stays, signatures_append}
 use Rattle.generated_files.proofs.Findings.{counter}
 use Rattle.generated_files.proofs.GeneratedLines.{Answers, Line, line_is}
@@ -27,7 +27,7 @@ use Rattle.typed_expressions.specs.Signatures.{Called, Signature, called, find_c
 abbrev names : List Procedure → List (List ℕ)
 names ps = map (λ p. p.name) ps
 
--- The same as for a line, of the procedures of so many lines.
+-- The facts about the first `n` lines, as `Line` gives them for one line.
 pub record Text (n : ℕ) (text : List ℕ) : Type 0 where
   pub kinds : List TokenKind
   pub splits : (rest : List ℕ) (expected : List TokenKind) → Splits rest expected → Splits (text ++ rest) (kinds ++ expected)
@@ -58,7 +58,7 @@ no_text = record {
   calls = λ s j h e. absurd (omega arith);
 }
 
--- The findings of one more procedure stand last.
+-- The findings of one more procedure come last.
 findings_append : (c : Called) (ns : List (List ℕ)) (ps : List Procedure) (p : Procedure) →
     procedures_findings c ns (ps ++ p ∷ []) ≡ procedures_findings c ns ps ++ procedure_findings c (list_any (bytes_eq p.name) (ns ++ names ps)) p
 findings_append c ns [] p = rw (append-nil ns) (append-nil (procedure_findings c (list_any (bytes_eq p.name) ns) p))
@@ -71,7 +71,7 @@ findings_append c ns (q ∷ qs) p =
 
 -- ---- One more line
 
--- The tree of the new line, behind the tokens of the others.
+-- The tree of the new line, after the tokens of the others.
 abbrev last_tree : (n : ℕ) (text more : List ℕ) → Text n text → Line n more → Spots → Procedure
 last_tree n text more t l s = l.tree (behind (length t.kinds) s)
 
@@ -107,7 +107,7 @@ clean_more n text more t l small c s answers =
     ∙ ap (λ (z : Bool). procedure_findings c z tree) new
     ∙ l.clean c after (answers n (omega arith))
 
--- A name that isn't the new line's.
+-- A name other than that of the new line.
 other_last : (n : ℕ) (text more : List ℕ) (t : Text n text) (l : Line n more) (s : Spots) (k : ℕ) → n < k → k < 2 ^ 64 → bytes_eq (name k) (last_tree n text more t l s).name ≡ false
 other_last n text more t l s k h g = ap (λ (x : List ℕ). bytes_eq (name k) x) (l.named (behind (length t.kinds) s)) ∙ other_name k n g h
 
@@ -134,7 +134,7 @@ uncalled_more n text more t l s k h g =
     ap (λ (c : Called). find_call c (name k)) (called_more n text more t l s)
     ∙ none_stays tree.name (signature n tree) (called (t.trees s)) (name k) (other_last n text more t l s k h g) (t.uncalled s k (omega arith) g)
 
--- The new line's name calls it.
+-- The name of the new line calls its procedure.
 last_called : (n : ℕ) (text more : List ℕ) (t : Text n text) (l : Line n more) → n < 2 ^ 63 → (s : Spots) → n % 4 ≡ 1 → find_call (called (all_trees n text more t l s)) (name n) ≡ Some (counter n)
 last_called n text more t l small s form =
     let tree = last_tree n text more t l s in

@@ -1,4 +1,4 @@
--- What holds of each generated line.
+-- The facts about each generated line.
 use Rattle.generated_files.proofs.Findings.{call_clean, coin_half_clean, coin_third_clean, counter, loop_clean, loop_signature}
 use Rattle.generated_files.proofs.Lines.{call_flows, call_pieces, call_text, coin_half, coin_half_flows, coin_pieces, coin_third, coin_third_flows, loop_flows, loop_pieces, loop_text, three, three_short, two, two_short}
 use Rattle.generated_files.proofs.Loads.{counts_behind, heads, is_light}
@@ -17,12 +17,12 @@ use Rattle.std.proofs.lemmas.Bool.Decides.{nat_tests}
 use Rattle.std.specs.Prelude.{if◌then◌else◌}
 use Rattle.typed_expressions.specs.Signatures.{Called, find_call, signature}
 
--- A call on line i finds the loop two lines before.
+-- A call on line `i` finds the loop two lines before.
 abbrev pub Answers : Called → ℕ → Type 0
 Answers called i = i % 4 ≡ 3 → find_call called (name (i - 2)) ≡ Some (counter (i - 2))
 
--- A line's text is split into tokens of these kinds, which are light and begin one procedure; at whatever places they stand they spell
--- a tree, against which nothing is found.
+-- The lexer splits line `i` into tokens of these kinds, whose load is small and which begin one
+-- procedure. At any places they spell a tree without findings.
 pub record Line (i : ℕ) (text : List ℕ) : Type 0 where
   pub kinds : List TokenKind
   pub splits : (rest : List ℕ) (expected : List TokenKind) → Splits rest expected → Splits (text ++ rest) (kinds ++ expected)

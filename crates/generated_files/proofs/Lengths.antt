@@ -1,4 +1,4 @@
--- Generated texts aren't long.
+-- The length of generated texts.
 use Rattle.generated_files.specs.Laws.{GeneratedTextsAreShort}
 use Rattle.generated_files.specs.Texts.{call_line, coin_line, generated_text, line, loop_line}
 use Rattle.std.proofs.Common.{Bool, List, arith, codes, false, length, refl, suc, true, zero, ◌%◌, ◌-◌, ◌<◌, ◌==◌, ◌^◌, ◌≡◌, ◌≤◌, ℕ}

@@ -58,14 +58,14 @@ brace = mark marks.BraceLeft
 abbrev unbrace : Piece
 unbrace = mark marks.BraceRight
 
--- The pieces of a coin, whose bound is 1 divided by the number that is given.
+-- The pieces of a coin, whose bound is 1 divided by the given number.
 abbrev pub coin_pieces : (x : List ℕ) → IsPlain x → Piece → List Piece
 coin_pieces x plain n =
     key keys.CoProc ∷ blank ∷ word x plain ∷ paren ∷ unparen ∷ blank ∷ mark marks.Arrow ∷ blank ∷ paren ∷ b ∷ mark marks.Colon ∷ blank ∷ key keys.BoolWord ∷ unparen
     ∷ blank ∷ key keys.Pre ∷ blank ∷ one ∷ slash ∷ n ∷ blank ∷ key keys.Post ∷ blank ∷ mark marks.BracketLeft ∷ b ∷ mark marks.BracketRight
     ∷ blank ∷ brace ∷ blank ∷ b ∷ blank ∷ mark marks.Assign ∷ blank ∷ key keys.Flip ∷ paren ∷ one ∷ slash ∷ two ∷ unparen ∷ blank ∷ unbrace ∷ feed ∷ []
 
--- Pieces with one blank between two, on a line.
+-- Pieces with one space between any two, on a line.
 abbrev spaced : List Piece → List Piece
 spaced [] = feed ∷ []
 spaced (p ∷ []) = p ∷ feed ∷ []

@@ -1,4 +1,4 @@
--- The load of a text, by the kinds of its tokens, and how many procedures it has.
+-- The load of a text, by the kinds of its tokens, and the number of its procedures.
 use Rattle.generated_files.proofs.Spread.{Spots, spread}
 use Rattle.heyvl_syntax.proofs.exported.Runs.{and_left, and_right}
 use Rattle.heyvl_syntax.specs.Load.{changed, effect, load, loads}
@@ -10,12 +10,12 @@ use Rattle.std.proofs.Common.{Bool, List, [], ap, arith, cond, length, nat_lt, n
 use Rattle.std.proofs.lemmas.List.Sums.{sum_by-cons}
 use Rattle.std.specs.List.{position_or_len}
 
--- The counts behind tokens of these kinds.
+-- The counts of the load after tokens of these kinds.
 abbrev pub counts_behind : List ℕ → List TokenKind → List ℕ
 counts_behind counts [] = counts
 counts_behind counts (k ∷ ks) = counts_behind (changed counts (effect k)) ks
 
--- After no token of these kinds the load is above 200.
+-- The load is at most 200 after each token of these kinds.
 abbrev pub is_light : List ℕ → List TokenKind → Bool
 is_light counts [] = true
 is_light counts (k ∷ ks) = not (nat_lt 200 (load (changed counts (effect k)))) && is_light (changed counts (effect k)) ks
@@ -38,7 +38,7 @@ pub counts_append : (counts : List ℕ) (ks ls : List TokenKind) → counts_behi
 counts_append counts [] ls = refl
 counts_append counts (k ∷ ks) ls = counts_append (changed counts (effect k)) ks ls
 
--- How many of the kinds begin a procedure.
+-- The number of kinds that begin a procedure.
 abbrev pub heads : List TokenKind → ℕ
 heads [] = 0
 heads (k ∷ ks) = cond (is_procedure_key k) 1 0 + heads ks

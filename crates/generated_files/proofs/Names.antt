@@ -1,4 +1,5 @@
--- The words of the generated lines are words, and no two procedures have one name.
+-- The identifiers of the generated lines have the form of identifiers, and no two procedures have
+-- one name.
 use Rattle.generated_files.proofs.Pieces.{IsPlain}
 use Rattle.generated_files.specs.Texts.{name}
 use Rattle.heyvl_syntax.specs.Bytes.{is_word_byte}
@@ -27,7 +28,7 @@ more_digits n ds h all = let d : n % 10 < 10 = omega arith in rw (list_all-appen
 digits_in_word : (i : ℕ) → i < 2 ^ 64 → list_all is_word_byte (decimal i) ≡ true
 digits_in_word i h = decimal_by_steps (λ n ds. list_all is_word_byte ds ≡ true) one_digit more_digits i h
 
--- A text that is a word and equals that of no key.
+-- An identifier that equals no keyword.
 plain : (x : List ℕ) → IsWord x → ((key : Key) → bytes_eq (key_text key) x ≡ false) → IsPlain x
 plain x is other = record { word = is; other = λ key e. absurd (unequal (bytes_eq (key_text key) x) ((bytes_eq-Decides (key_text key) x).1 e) (other key)) }
   where
@@ -83,7 +84,7 @@ name_other ds _ = refl
 pub name_plain : (i : ℕ) → i < 2 ^ 64 → IsPlain (name i)
 name_plain i h = plain (name i) (refl, digits_in_word i h) (name_other (decimal i))
 
--- ---- Names that aren't the same
+-- ---- Different names
 
 pub same_name : (x : List ℕ) → bytes_eq x x ≡ true
 same_name x = (bytes_eq-Decides x x).1 refl

@@ -1,4 +1,4 @@
--- A text as pieces, each of which is what stands at its place, and the tokens among them.
+-- A text as pieces that the lexer separates, and their tokens.
 use Rattle.heyvl_syntax.proofs.exported.Steps.{made}
 use Rattle.heyvl_syntax.proofs.exported.TokenReads.{Reads, ends_number, free_reads, is_free, key_reads, lexes_read, number_reads, spaced_reads, word_reads}
 use Rattle.heyvl_syntax.specs.Bytes.{ends_word, is_white}
@@ -16,7 +16,7 @@ use Rattle.heyvl_syntax.proofs.exported.Runs.{and_left, and_right}
 use Rattle.std.proofs.lemmas.Bool.Decides.{nat_tests}
 use Rattle.std.proofs.Common.{Bool, List, [], ap, arith, false, inl, inr, length, map, refl, subst, sym, true, ◌&&◌, ◌++◌, ◌+◌, ◌==◌, ◌||◌, ◌⊎◌, ◌∷◌, ◌≡◌, ℕ}
 
--- A word that is no key.
+-- An identifier, which is not a keyword.
 pub record IsPlain (x : List ℕ) : Type 0 where
   pub word : IsWord x
   pub other : (key : Key) → key_text key ≡ x → ⊥
@@ -35,7 +35,7 @@ pub data Piece : Type 0 where
   word : (x : List ℕ) → IsPlain x → Piece
   number : (text : List ℕ) → IsShort text → Piece
 
--- The bytes of pieces, and those behind them.
+-- The bytes of pieces, then the bytes `rest`.
 abbrev pub bytes : List Piece → List ℕ → List ℕ
 bytes [] rest = rest
 bytes (blank ∷ ps) rest = 32 ∷ bytes ps rest
@@ -54,7 +54,7 @@ abbrev digit_next : List ℕ → Bool
 digit_next [] = false
 digit_next (b ∷ bs) = b == 50 || b == 51
 
--- Each piece is what stands at its place.
+-- No piece is extended by the bytes after it.
 abbrev pub flows : List Piece → List ℕ → Bool
 flows [] rest = true
 flows (blank ∷ ps) rest = flows ps rest
@@ -76,13 +76,13 @@ kinds_of (slash ∷ ps) = kinds.Mark marks.Slash ∷ kinds_of ps
 kinds_of (word x plain ∷ ps) = kinds.Word x ∷ kinds_of ps
 kinds_of (number text short ∷ ps) = kinds.Number (literal text) ∷ kinds_of ps
 
--- Bytes that begin at a place are split into tokens of these kinds.
+-- The lexer splits bytes that begin at `place` into tokens of these kinds.
 pub record Split (place : ℕ) (all : List ℕ) (expected : List TokenKind) : Type 0 where
   pub tokens : List Token
   pub are : map (λ t. t.kind) tokens ≡ expected
   pub lexes : Lexes place all tokens
 
--- The same wherever they begin.
+-- `Split` at every place.
 abbrev pub Splits : List ℕ → List TokenKind → Type 0
 Splits all expected = (place : ℕ) → Split place all expected
 
@@ -133,7 +133,7 @@ white_more b rest expected is more place =
       lexes = record { parts = white ∷ behind.lexes.parts; splits = (1, (is, refl), behind.lexes.splits); are_tokens = behind.lexes.are_tokens };
     }
 
--- Pieces that are what stands at their places are split into their tokens, and what stands behind them.
+-- The lexer splits pieces that nothing extends into their tokens.
 pub splits_pieces : (ps : List Piece) (rest : List ℕ) (expected : List TokenKind) → flows ps rest ≡ true → Splits rest expected → Splits (bytes ps rest) (kinds_of ps ++ expected)
 splits_pieces [] rest expected h more = more
 splits_pieces (blank ∷ ps) rest expected h more = white_more 32 (bytes ps rest) (kinds_of ps ++ expected) refl (splits_pieces ps rest expected h more)

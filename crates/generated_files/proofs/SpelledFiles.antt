@@ -1,4 +1,4 @@
--- The tokens of the generated lines spell their trees, at whatever places they stand.
+-- The tokens of the generated lines spell their trees, at any places.
 use Rattle.generated_files.proofs.Lines.{call_pieces, coin_pieces, loop_pieces}
 use Rattle.generated_files.proofs.Pieces.{IsPlain, IsShort, kinds_of, number}
 use Rattle.generated_files.proofs.Spread.{Spots, over, spread}
@@ -19,11 +19,10 @@ use Rattle.heyvl_syntax.specs.declared.types.TypeName.TheVariants as types
 use Rattle.heyvl_syntax.specs.declared.types.TypeName.{TypeName}
 use Rattle.std.proofs.Common.{List, [], codes, inl, lit≤, refl, ◌++◌, ◌+◌, ◌∷◌, ◌≡◌, ◌≤◌, ℕ}
 
--- First the one and then the other.
 both : {P Q : List Token → Type 0} (xs ys : List Token) → P xs → Q ys → (P then Q) (xs ++ ys)
 both xs ys p q = (xs, ys, p, q, refl)
 
--- The token at this place, and then the other.
+-- A token, then the others.
 infixr 30 ◌▸◌
 ◌▸◌ : {Q : List Token → Type 0} {kind : TokenKind} {ys : List Token} (s : Span) → Q ys → (IsOne kind then Q) (at kind s ∷ ys)
 ◌▸◌ {kind = kind} {ys = ys} s q = (at kind s ∷ [], ys, (s, refl), q, refl)
@@ -69,7 +68,7 @@ coin_spelled x plain text short s = (
   refl,
 )
 
--- ---- What a loop and a call have in common
+-- ---- The common parts of a loop and a call
 
 -- `coproc x(init_c: UInt) -> (c: UInt) pre init_c + 1 post c`, and a body.
 counter_is : (x : List ℕ) (s : Spots) (body : Block) (end : ℕ) (ts : List Token) → IsBlock body ts →

@@ -1,15 +1,15 @@
--- Tokens of some kinds, whose places are numbered.
+-- Tokens of given kinds, with places by their index.
 use Rattle.heyvl_places.specs.declared.spans.Span.{Span}
 use Rattle.heyvl_syntax.specs.Productions.{at}
 use Rattle.heyvl_syntax.specs.declared.tokens.Token.{Token}
 use Rattle.heyvl_syntax.specs.declared.tokens.TokenKind.{TokenKind}
 use Rattle.std.proofs.Common.{List, [], ap, length, map, refl, suc, zero, ◌++◌, ◌∷◌, ◌≡◌, ℕ}
 
--- The place of each token of a text, by its number.
+-- The place of each token of a text, by its index.
 abbrev pub Spots : Type 0
 Spots = ℕ → Span
 
--- Those behind so many tokens.
+-- The places after a number of tokens.
 abbrev pub behind : ℕ → Spots → Spots
 behind zero s = s
 behind (suc n) s = behind n (λ j. s (suc j))
@@ -33,6 +33,6 @@ pub spread_append : (s : Spots) (ks ls : List TokenKind) → spread s (ks ++ ls)
 spread_append s [] ls = refl
 spread_append s (k ∷ ks) ls = ap (λ (z : List Token). at k (s zero) ∷ z) (spread_append (λ j. s (suc j)) ks ls)
 
--- From one place to the end of another.
+-- The place from one token to the end of another.
 abbrev pub over : Spots → ℕ → ℕ → Span
 over s i j = record { from = (s i).from; to = (s j).to }

@@ -1,4 +1,4 @@
--- The trees of the generated lines, where the places of their tokens are given.
+-- The trees of the generated lines, for given places of their tokens.
 use Rattle.generated_files.proofs.Spread.{Spots, over}
 use Rattle.heyvl_syntax.specs.Expressions.{Expression}
 use Rattle.heyvl_syntax.specs.Procedures.{Procedure}
@@ -31,7 +31,7 @@ param x t s j = record { name = x; ty = t; span = over s j (j + 2) }
 abbrev pub coin_body : Spots → Block
 coin_body s = Block.next (Statement.assign (codes "b" ∷ []) (RightSide.flip (part (whole 2) s 23)) (over s 19 26)) Block.done
 
--- A coin with the bound 1/n.
+-- A coin with the bound `1/n`.
 abbrev pub coin : List ℕ → Lit → Spots → Procedure
 coin x n s = record {
   co = true;
@@ -45,7 +45,8 @@ coin x n s = record {
   span = over s 0 27;
 }
 
--- `coproc x(init_c: UInt) -> (c: UInt) pre init_c + 1 post c`, with this body up to this token.
+-- `coproc x(init_c: UInt) -> (c: UInt) pre init_c + 1 post c`, with a body that ends at the given
+-- token.
 abbrev pub counter : List ℕ → Spots → Block → ℕ → Procedure
 counter x s body end = record {
   co = true;

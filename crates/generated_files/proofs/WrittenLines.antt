@@ -1,4 +1,4 @@
--- The lines as they are put together.
+-- The lines as the program builds them.
 use Rattle.generated_files.specs.Texts.{call_line, coin_line, loop_line, name}
 use Rattle.std.proofs.Common.{List, append_assoc, codes, ◌++◌, ◌-◌, ◌≡◌, ℕ}
 

@@ -2,13 +2,13 @@
 
 ghost use Rattle.generated_files.specs.Laws.{GeneratedTextsAreFaultless, GeneratedTextsAreShort};
 
-/// A generated text of no more lines than a file may have procedures spells a file of as many procedures, and has no fault, neither as a
-/// text nor of names and types.
+/// A generated text of `n` lines, at most the limit of procedures, spells a file of `n` procedures
+/// without an error.
 pub fn generated_texts_are_faultless()
     ensures { GeneratedTextsAreFaultless }
 {}
 
-/// It has at most 300 bytes for each line.
+/// A generated text of `n` lines, at most the limit of procedures, has at most `300 * n` bytes.
 pub fn generated_texts_are_short()
     ensures { GeneratedTextsAreShort }
 {}

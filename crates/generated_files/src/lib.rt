@@ -1,4 +1,5 @@
-//! Generated files: a text of as many procedures as are asked for.
+//! Generated files: a text with a given number of procedures. `AllocError` means that memory ran
+//! out.
 #![tactic(auto)]
 
 mod laws;

@@ -1,4 +1,4 @@
-//! The text that is generated.
+//! The generated text.
 
 ghost use Rattle.generated_files.specs.Texts as texts;
 ghost use Rattle.std.specs.Prelude.{◌++◌, ◌≡◌, ◌≤◌, IfOk, OnOk, codes};
@@ -6,7 +6,7 @@ ghost use Rattle.std.specs.Prelude.{◌++◌, ◌≡◌, ◌≤◌, IfOk, OnOk, 
 use itoa::Buffer;
 use std::alloc::{AllocError, Global};
 
-/// Puts the name of the procedure on line `i` behind the text.
+/// Appends the name of the procedure on line `i` to `text`.
 fn write_name(text: &mut Vec<u8>, i: u32) -> Result<(), AllocError>
     ensures { OnOk result (text.new.items ≡ text.old.items ++ texts.name i) }
 {
@@ -15,7 +15,7 @@ fn write_name(text: &mut Vec<u8>, i: u32) -> Result<(), AllocError>
     Ok(text.extend_from_slice(buffer.format(i).as_bytes())?)
 }
 
-/// Puts `coproc` and the name of the procedure on line `i` behind the text.
+/// Appends `coproc` and the name of the procedure on line `i` to `text`.
 fn write_head(text: &mut Vec<u8>, i: u32) -> Result<(), AllocError>
     ensures { OnOk result (text.new.items ≡ text.old.items ++ (codes "coproc " ++ texts.name i)) }
 {
@@ -23,7 +23,7 @@ fn write_head(text: &mut Vec<u8>, i: u32) -> Result<(), AllocError>
     write_name(text, i)
 }
 
-/// Puts line `i` behind the text, as a coin with this bound.
+/// Appends line `i` to `text` as a coin with this bound.
 fn write_coin(text: &mut Vec<u8>, i: u32, bound: &[u8]) -> Result<(), AllocError>
     ensures { OnOk result (text.new.items ≡ text.old.items ++ texts.coin_line i bound.now) }
 {
@@ -33,7 +33,7 @@ fn write_coin(text: &mut Vec<u8>, i: u32, bound: &[u8]) -> Result<(), AllocError
     Ok(text.extend_from_slice(b" post [b] { b = flip(1/2) }\n")?)
 }
 
-/// Puts line `i` behind the text, as a loop with its invariant.
+/// Appends line `i` to `text` as a loop with its invariant.
 fn write_loop(text: &mut Vec<u8>, i: u32) -> Result<(), AllocError>
     ensures { OnOk result (text.new.items ≡ text.old.items ++ texts.loop_line i) }
 {
@@ -49,7 +49,7 @@ fn write_loop(text: &mut Vec<u8>, i: u32) -> Result<(), AllocError>
     )?)
 }
 
-/// Puts line `i` behind the text, as a call of the procedure on the line two before.
+/// Appends line `i` to `text` as a call of the procedure two lines before.
 fn write_call(text: &mut Vec<u8>, i: u32) -> Result<(), AllocError>
     requires { 2 ≤ i }
     ensures { OnOk result (text.new.items ≡ text.old.items ++ texts.call_line i) }
@@ -60,7 +60,7 @@ fn write_call(text: &mut Vec<u8>, i: u32) -> Result<(), AllocError>
     Ok(text.extend_from_slice(b"(init_c) }\n")?)
 }
 
-/// Puts line `i` behind the text.
+/// Appends line `i` to `text`.
 fn write_line(text: &mut Vec<u8>, i: u32) -> Result<(), AllocError>
     ensures { OnOk result (text.new.items ≡ text.old.items ++ texts.line i) }
 {
@@ -72,7 +72,7 @@ fn write_line(text: &mut Vec<u8>, i: u32) -> Result<(), AllocError>
     }
 }
 
-/// The text of so many lines, a procedure on each.
+/// Returns the text of `lines` lines, with one procedure each.
 pub fn generated_text(alloc: Global, lines: u32) -> Result<Vec<u8>, AllocError>
     ensures { IfOk result (λ text. text.items ≡ texts.generated_text lines) }
 {
