@@ -22,7 +22,7 @@ use Rattle.heylo_formula.specs.declared.values.Val.{Val}
 use Rattle.quant_algebra.specs.ExactOperators.{and_then, at_most_or, less_or, is_equal, exact_differenceᵛ, exact_cutᵛ, exact_scaleᵛ, exact_minᵛ, exact_maxᵛ, exact_impliesᵛ, exact_coimpliesᵛ, exact_leqᵛ, exact_lessᵛ, exact_equalᵛ}
 use Rattle.quant_algebra.specs.ExactMeaning.{chosen, exact_value, exact_truth, exact_goal}
 
--- ---- Parts that agree with what they mean
+-- ---- Parts whose exact values are those that they mean
 
 both : {A B C : Type 0} (p : Option A) (q : Option B) (v : A) (u : B) (k : A → B → Option C) (w : C) → IfSome p (λ x. x ≡ v) → IfSome q (λ y. y ≡ u) → IfSome (k v u) (λ z. z ≡ w) → IfSome (and_then p (λ x. and_then q (λ y. k x y))) (λ z. z ≡ w)
 both (Some x) (Some y) v u k w hp hq h = subst (λ a. IfSome (k a y) (λ z. z ≡ w)) (sym hp) (subst (λ b. IfSome (k v b) (λ z. z ≡ w)) (sym hq) h)
@@ -37,7 +37,7 @@ mapped : {A B : Type 0} (k : A → B) (p : Option A) (v : A) → IfSome p (λ x.
 mapped k (Some x) v h = ap k h
 mapped k None v h = tt
 
--- a result that another equation tells
+-- A result by an equation.
 retold : {A : Type 0} (p : Option A) (v w : A) → v ≡ w → IfSome p (λ x. x ≡ v) → IfSome p (λ x. x ≡ w)
 retold (Some x) v w e h = h ∙ e
 retold None v w e h = tt
@@ -101,7 +101,7 @@ order_is (finite x) infinite = refl
 order_is infinite (finite y) = refl
 order_is infinite infinite = refl
 
--- ---- What a comparison says of the order
+-- ---- Comparisons and the order
 
 other_way : (x y : Rational) → leqʳ y x ≡ false → leqʳ x y ≡ true
 other_way x y e = go (≤ʳ_total x y)

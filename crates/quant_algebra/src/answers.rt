@@ -1,15 +1,15 @@
-//! What an evaluation gives.
+//! The answers of an evaluation.
 
 use heyvl_num::Ext;
 
-/// An exact value, or Bits where a number that it is computed from doesn't fit.
+/// An exact value, or `Bits` if a number on the way overflows.
 #[derive(Clone, Copy, Debug)]
 pub enum At {
     Value(Ext),
     Bits,
 }
 
-/// A truth value, or Bits where a number that it is computed from doesn't fit.
+/// A truth value, or `Bits` if a number on the way overflows.
 #[derive(Clone, Copy, Debug, PartialEq, Eq)]
 pub enum Held {
     Yes,

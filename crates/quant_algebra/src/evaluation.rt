@@ -1,5 +1,5 @@
-//! Values of formulas, truth of conditions, and goals, in a given state. Nodes of one shape have a function of their own, so
-//! that a level of a deep form takes little of the stack.
+//! The values of formulas, the truth of conditions, and goals, in a given state. Nodes of one shape
+//! share a function, so that each level of a deep formula takes little of the stack.
 
 ghost use Rattle.std.specs.Prelude.{◌≡◌, ◌↔◌, true, option_map, IfSome};
 ghost use Rattle.heyvl_num.specs.Value.Value.{finite};
@@ -10,7 +10,8 @@ ghost use Rattle.heylo_formula.specs.Choices.{Choices};
 ghost use Rattle.heylo_formula.specs.Meaning.{value as form_value, holds};
 ghost use Rattle.heylo_formula.specs.State.{get, truth_of, number_of, environment};
 ghost use Rattle.quant_algebra.specs.ExactOperators.{and_then};
-ghost use Rattle.quant_algebra.specs.ExactMeaning.{at_of, held_of, exact_value, exact_truth, exact_goal};
+ghost use Rattle.quant_algebra.specs.ExactMeaning.{at_of, held_of, exact_value, exact_truth};
+ghost use Rattle.quant_algebra.specs.ExactMeaning.{exact_goal};
 ghost use Rattle.quant_algebra.specs.internal.Nodes.{exact_binary, exact_unary, exact_comparison};
 
 use crate::answers::{At, Held};
@@ -19,27 +20,32 @@ use crate::operators::at_most;
 use heylo_formula::{Cond, Form, Goal, Val};
 use heyvl_num::Ext;
 
-/// The exact value of a form without binders, which is the value that it means in the state. Bits comes exactly where a
-/// number that is needed doesn't fit.
+/// Returns the exact value of a formula without binders, which is the value that it means in the
+/// state, or `Bits` if a number that is needed overflows.
 pub fn value_at(form: &Form, state: &[Val]) -> At
     ensures exact { at_of result ≡ exact_value (form_of form.now) state.now }
-    ensures meaning { IfSome (at_of result) (λ x. x ≡ form_value (form_of form.now) (environment state.now) Choices.stop) }
+    ensures meaning { IfSome (at_of result)
+        (λ x. x ≡ form_value (form_of form.now) (environment state.now) Choices.stop) }
 {
     at(value(form, state))
 }
 
-/// Whether a condition without binders holds in the state. Bits comes exactly where a number that is needed doesn't fit.
+/// Returns whether a condition without binders holds in the state, or `Bits` if a number that is
+/// needed overflows.
 pub fn holds_at(cond: &Cond, state: &[Val]) -> Held
     ensures exact { held_of result ≡ exact_truth (cond_of cond.now) state.now }
-    ensures meaning { IfSome (held_of result) (λ t. t ≡ holds (cond_of cond.now) (environment state.now) Choices.stop) }
+    ensures meaning { IfSome (held_of result)
+        (λ t. t ≡ holds (cond_of cond.now) (environment state.now) Choices.stop) }
 {
     held(truth(cond, state))
 }
 
-/// Whether a goal's inequality holds in the state. Bits comes exactly where a number that is needed doesn't fit.
+/// Returns whether the inequality of a goal holds in the state, or `Bits` if a number that is
+/// needed overflows.
 pub fn goal_at(goal: &Goal, state: &[Val]) -> Held
     ensures exact { held_of result ≡ exact_goal (goal_of goal.now) state.now }
-    ensures meaning { IfSome (held_of result) (λ t. (t ≡ true) ↔ HoldsIn (goal_of goal.now) (environment state.now)) }
+    ensures meaning { IfSome (held_of result) (λ t. (t ≡ true)
+        ↔ HoldsIn (goal_of goal.now) (environment state.now)) }
 {
     held(inequality(goal, state))
 }
@@ -75,7 +81,7 @@ fn inequality(goal: &Goal, state: &[Val]) -> Option<bool>
     }
 }
 
-/// The value of a numeric variable; 0 where the state has none.
+/// Returns the value of a numeric variable, or 0 if the state has none.
 fn number(x: u32, state: &[Val]) -> Ext
     ensures { value_of result ≡ finite (number_of (get x state.now)) }
 {
@@ -86,7 +92,7 @@ fn number(x: u32, state: &[Val]) -> Ext
     }
 }
 
-/// The value of a Boolean variable; false where the state has none.
+/// Returns the value of a Boolean variable, or false if the state has none.
 fn flag(x: u32, state: &[Val]) -> bool
     ensures { result ≡ truth_of (get x state.now) }
 {
@@ -97,7 +103,7 @@ fn flag(x: u32, state: &[Val]) -> bool
     }
 }
 
-/// The value of a form.
+/// Returns the value of a formula.
 #[cycle(evaluating)]
 fn value(form: &Form, state: &[Val]) -> Option<Ext>
     ensures { option_map value_of result ≡ exact_value (form_of form.now) state.now }
@@ -135,28 +141,31 @@ fn value(form: &Form, state: &[Val]) -> Option<Ext>
     }
 }
 
-/// Two forms, and an operator on their values.
+/// Returns the value of an operator on two formulas.
 #[cycle(evaluating)]
 #[inline(never)]
 fn two_parts(operator: Binary, a: &Form, b: &Form, state: &[Val]) -> Option<Ext>
-    ensures { option_map value_of result ≡ and_then (exact_value (form_of a.now) state.now) (λ x. and_then (exact_value (form_of b.now) state.now) (λ y. exact_binary operator x y)) }
+    ensures { option_map value_of result
+        ≡ and_then (exact_value (form_of a.now) state.now)
+        (λ x. and_then (exact_value (form_of b.now) state.now) (λ y. exact_binary operator x y)) }
 {
     let x = value(a, state)?;
     let y = value(b, state)?;
     of_values(operator, &x, &y)
 }
 
-/// A form, and an operator on its value.
+/// Returns the value of an operator on one formula.
 #[cycle(evaluating)]
 #[inline(never)]
 fn one_part(operator: &Unary, a: &Form, state: &[Val]) -> Option<Ext>
-    ensures { option_map value_of result ≡ and_then (exact_value (form_of a.now) state.now) (λ x. exact_unary operator.now x) }
+    ensures { option_map value_of result
+        ≡ and_then (exact_value (form_of a.now) state.now) (λ x. exact_unary operator.now x) }
 {
     let x = value(a, state)?;
     of_value(operator, &x)
 }
 
-/// Whether a condition holds.
+/// Returns whether a condition holds.
 #[cycle(evaluating)]
 fn truth(cond: &Cond, state: &[Val]) -> Option<bool>
     ensures { result ≡ exact_truth (cond_of cond.now) state.now }
@@ -191,11 +200,13 @@ fn truth(cond: &Cond, state: &[Val]) -> Option<bool>
     }
 }
 
-/// Two forms, and a comparison of their values.
+/// Returns whether a comparison of two formulas holds.
 #[cycle(evaluating)]
 #[inline(never)]
 fn compared(operator: Comparison, a: &Form, b: &Form, state: &[Val]) -> Option<bool>
-    ensures { result ≡ and_then (exact_value (form_of a.now) state.now) (λ x. and_then (exact_value (form_of b.now) state.now) (λ y. exact_comparison operator x y)) }
+    ensures { result ≡ and_then (exact_value (form_of a.now) state.now)
+        (λ x. and_then (exact_value (form_of b.now) state.now)
+        (λ y. exact_comparison operator x y)) }
 {
     let x = value(a, state)?;
     let y = value(b, state)?;

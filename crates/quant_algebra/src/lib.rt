@@ -1,4 +1,4 @@
-//! Exact values of formulas without binders, in a given state.
+//! Exact values of formulas without binders in a given state.
 #![tactic(auto)]
 
 mod answers;

@@ -1,4 +1,4 @@
-//! The operators of nodes, in the order of their parts, on the values of the parts. None comes where a number doesn't fit.
+//! The operators of nodes on the values of their parts. `None` means that a number overflows.
 
 ghost use Rattle.std.specs.Prelude.{◌≡◌, option_map};
 ghost use Rattle.heyvl_num.specs.ExtendedNumbers.{value_of};
@@ -39,7 +39,7 @@ pub(crate) enum Comparison {
     Equal,
 }
 
-/// The value of an operator on two values.
+/// Returns the value of an operator on two values.
 #[inline(never)]
 pub(crate) fn of_values(operator: Binary, x: &Ext, y: &Ext) -> Option<Ext>
     ensures { option_map value_of result ≡ exact_binary operator (value_of x.now) (value_of y.now) }
@@ -56,7 +56,7 @@ pub(crate) fn of_values(operator: Binary, x: &Ext, y: &Ext) -> Option<Ext>
     }
 }
 
-/// The value of an operator on one value.
+/// Returns the value of an operator on one value.
 #[inline(never)]
 pub(crate) fn of_value(operator: &Unary, x: &Ext) -> Option<Ext>
     ensures { option_map value_of result ≡ exact_unary operator.now (value_of x.now) }
@@ -68,7 +68,7 @@ pub(crate) fn of_value(operator: &Unary, x: &Ext) -> Option<Ext>
     }
 }
 
-/// Whether a comparison of two values holds.
+/// Returns whether a comparison of two values holds.
 pub(crate) fn is_so(operator: Comparison, x: &Ext, y: &Ext) -> Option<bool>
     ensures { result ≡ exact_comparison operator (value_of x.now) (value_of y.now) }
 {

@@ -1,14 +1,18 @@
-//! The operators of formulas on exact numbers. None comes where a number doesn't fit.
+//! The operators of formulas on exact numbers. `None` means that a number overflows.
 
 ghost use Rattle.std.specs.Prelude.{◌≡◌, option_map};
 ghost use Rattle.heyvl_num.specs.ExtendedNumbers.{value_of};
 ghost use Rattle.heylo_formula.specs.Operators.{validateᵛ, covalidateᵛ};
-ghost use Rattle.quant_algebra.specs.ExactOperators.{exact_differenceᵛ, exact_cutᵛ, exact_scaleᵛ, exact_minᵛ, exact_maxᵛ, exact_impliesᵛ, exact_coimpliesᵛ, exact_leqᵛ, exact_lessᵛ, exact_equalᵛ};
+ghost use Rattle.quant_algebra.specs.ExactOperators.{exact_differenceᵛ, exact_cutᵛ, exact_scaleᵛ};
+ghost use Rattle.quant_algebra.specs.ExactOperators.{exact_minᵛ, exact_maxᵛ, exact_impliesᵛ};
+ghost use Rattle.quant_algebra.specs.ExactOperators.{exact_coimpliesᵛ, exact_leqᵛ, exact_lessᵛ};
+ghost use Rattle.quant_algebra.specs.ExactOperators.{exact_equalᵛ};
 
 use heyvl_num::{Ext, Frac};
 use std::cmp::Ordering;
 
-/// The plain difference. One with infinity has no meaning; it is 0 where the second is infinity, else infinity.
+/// Returns the difference: 0 for a fraction minus infinity, and infinity for infinity minus any
+/// value. Both values are finite in a well-typed formula.
 pub(crate) fn difference(x: &Ext, y: &Ext) -> Option<Ext>
     ensures { option_map value_of result ≡ exact_differenceᵛ (value_of x.now) (value_of y.now) }
 {
@@ -19,7 +23,7 @@ pub(crate) fn difference(x: &Ext, y: &Ext) -> Option<Ext>
     }
 }
 
-/// The truncated difference.
+/// Returns the truncated difference, which is 0 where it would be negative.
 pub(crate) fn cut(x: &Ext, y: &Ext) -> Option<Ext>
     ensures { option_map value_of result ≡ exact_cutᵛ (value_of x.now) (value_of y.now) }
 {
@@ -56,7 +60,7 @@ pub(crate) fn max(x: &Ext, y: &Ext) -> Option<Ext>
     }
 }
 
-/// Implication (Goedel's).
+/// Returns infinity if `x` is at most `y`, otherwise `y` (Goedel's implication).
 pub(crate) fn implies(x: &Ext, y: &Ext) -> Option<Ext>
     ensures { option_map value_of result ≡ exact_impliesᵛ (value_of x.now) (value_of y.now) }
 {
@@ -67,7 +71,7 @@ pub(crate) fn implies(x: &Ext, y: &Ext) -> Option<Ext>
     }
 }
 
-/// Coimplication.
+/// Returns `y` if `x` is below `y`, otherwise 0 (coimplication).
 pub(crate) fn coimplies(x: &Ext, y: &Ext) -> Option<Ext>
     ensures { option_map value_of result ≡ exact_coimpliesᵛ (value_of x.now) (value_of y.now) }
 {

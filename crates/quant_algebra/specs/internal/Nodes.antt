@@ -1,9 +1,12 @@
--- The operators of nodes in memory, on the exact values of their parts. The crate speaks of them alone.
+-- The operators of nodes in memory, on the exact values of their parts.
 use Rattle.std.specs.Prelude.{Bool, Option, Some}
 use Rattle.heyvl_num.specs.Value.{Value}
 use Rattle.heyvl_num.specs.ExactValues.{exact_sumᵛ, exact_productᵛ}
 use Rattle.heylo_formula.specs.Operators.{validateᵛ, covalidateᵛ}
-use Rattle.quant_algebra.specs.ExactOperators.{exact_differenceᵛ, exact_cutᵛ, exact_scaleᵛ, exact_minᵛ, exact_maxᵛ, exact_impliesᵛ, exact_coimpliesᵛ, exact_leqᵛ, exact_lessᵛ, exact_equalᵛ}
+use Rattle.quant_algebra.specs.ExactOperators.{exact_differenceᵛ, exact_cutᵛ, exact_scaleᵛ}
+use Rattle.quant_algebra.specs.ExactOperators.{exact_minᵛ, exact_maxᵛ, exact_impliesᵛ}
+use Rattle.quant_algebra.specs.ExactOperators.{exact_coimpliesᵛ, exact_leqᵛ, exact_lessᵛ}
+use Rattle.quant_algebra.specs.ExactOperators.{exact_equalᵛ}
 use Rattle.quant_algebra.specs.declared.nodes.Binary.{Binary}
 use Rattle.quant_algebra.specs.declared.nodes.Unary.{Unary}
 use Rattle.quant_algebra.specs.declared.nodes.Comparison.{Comparison}
