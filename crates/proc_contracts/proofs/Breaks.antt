@@ -1,4 +1,4 @@
--- The first act that breaks a program, in lists of acts in a row.
+-- The first act that no program has, in two lists of acts.
 use Rattle.std.proofs.Common.{◌≡◌, ℕ, Bool, true, false, ◌<◌, ◌+◌, refl, ap, sym, ◌∙◌, List, [], ◌∷◌, ◌++◌, length, get_or}
 use mathlib.Core.Bool.{beq, not}
 use Rattle.std.specs.Option.{option_or}
@@ -31,11 +31,11 @@ both co (Act.validate d span ∷ rest) ys = refl
 both co (Act.loop h b ∷ rest) ys = both co rest ys
 both co (Act.call xs p es span ∷ rest) ys = both co rest ys
 
--- What is found in the first part is found in both.
+-- The first list has one.
 pub found_first : (co : Bool) (xs ys : List Act) (s : Span) → Some s ≡ first_break co xs → Some s ≡ first_break co (xs ++ ys)
 found_first co xs ys s h = sym (both co xs ys ∙ ap (λ o. option_or o (first_break co ys)) (sym h))
 
--- Where there is none in the first part, the second counts.
+-- The first list has none, and the second counts.
 pub past_first : (co : Bool) (xs ys : List Act) → None ≡ first_break co xs → first_break co (xs ++ ys) ≡ first_break co ys
 past_first co xs ys h = both co xs ys ∙ ap (λ o. option_or o (first_break co ys)) (sym h)
 
@@ -51,7 +51,7 @@ arm_found co arms k e x s lt is h = found_first co (in_order (acts_of x.1.items)
 pub arm_past : (co : Bool) (arms : List (C.Cond × Vec A.Act Global)) (k : ℕ) (e : List Act) (x : C.Cond × Vec A.Act Global) → k < length arms → x ≡ get_or arms k x → None ≡ first_break co (in_order (acts_of x.1.items)) → first_break co (arms_from arms (k + 1) e) ≡ first_break co (arms_from arms k e)
 arm_past co arms k e x lt is h = sym (ap (λ l. first_break co l) (next_arm arms k e x lt is) ∙ past_first co (in_order (acts_of x.1.items)) (arms_from arms (k + 1) e) h)
 
--- A pick that agrees, and the acts inside it, as parts.
+-- A choice in the direction of the procedure, with the acts inside it.
 pub pick_start : (co : Bool) (a : A.Act) (up : Bool) (b d : Vec A.Act Global) (span : Span) → a ≡ A.Pick up b d span → not (beq co up) ≡ false → first_break co (in_order (acts_of b.items) ++ in_order (acts_of d.items)) ≡ first_break co (act_of a ∷ inside (act_of a))
 pick_start co a up b d span is same = of_pick (first_break co) a up b d span (agreeing co up (acts_of b.items) (acts_of d.items) same) is
   where

@@ -15,7 +15,7 @@ use Rattle.heyvl_acts.specs.declared.typed_trees.Typed.{Typed}
 use Rattle.proc_contracts.specs.internal.CallWalk.{AreCalled}
 use Rattle.proc_contracts.specs.internal.Callees.{callees}
 
--- What acts call is what they are said to call.
+-- `callees` lists what `calls` finds.
 pub called_are_calls : (q : ℕ) (acts : List Act) → among (callees acts) q ≡ calls q acts
 called_are_calls q [] = refl
 called_are_calls q (Act.set x t span ∷ rest) = called_are_calls q rest
@@ -30,7 +30,7 @@ called_are_calls q (Act.validate co span ∷ rest) = called_are_calls q rest
 called_are_calls q (Act.loop h b ∷ rest) = called_are_calls q rest
 called_are_calls q (Act.call xs p es span ∷ rest) = ap (λ b. (p == q) || b) (called_are_calls q rest)
 
--- What typed acts call is there.
+-- Well-typed acts call procedures that exist.
 pub called_are_there : (ps : List TypedProcedure) (p : TypedProcedure) (acts : List Act) → Each (IsTypedAct ps p) acts → All (λ q. q < length ps) (callees acts)
 called_are_there ps p [] h = All-nil (λ q. q < length ps)
 called_are_there ps p (Act.set x t span ∷ rest) h = called_are_there ps p rest h.1
@@ -57,7 +57,7 @@ each_procedure ps [] p h lt = absurd (omega (arith, lt))
 each_procedure ps (y ∷ rest) zero h lt = h.0
 each_procedure ps (y ∷ rest) (suc p) h lt = each_procedure ps rest p h.1 (omega (arith, lt))
 
--- What a body calls, in a file that meets the rules.
+-- The procedures that a body calls, in a file that satisfies the rules.
 pub are_called : (typed : Typed) (p : ℕ) (x : TProc) (called : List ℕ) → MeetsAllRules typed → p < length typed.procs.items → x ≡ get_or typed.procs.items p x → called ≡ callees (in_order (acts_in (procedure_of x).body)) → AreCalled (procedures_of typed) p called
 are_called typed p x called rules lt is h = record {
   each = λ q. ap (λ l. among l q) here ∙ called_are_calls q (in_order (acts_in (procedure_at (procedures_of typed) p).body));

@@ -1,4 +1,4 @@
--- What is modified, what is reached and what is a program, computed by hand on small procedures.
+-- Modified variables, reached procedures and programs, worked out by hand on small procedures.
 use Rattle.std.proofs.Common.{◌≡◌, refl, ℕ, Bool, true, false, ◌==◌, ◌||◌, List, [], ◌∷◌, sym, subst, arith, ⊎_elim}
 use Rattle.std.specs.Prelude.{pos, Some, None}
 use Rattle.std.proofs.lemmas.Bool.{eqb-true, or_cases, false≢true}
@@ -31,34 +31,36 @@ head = record { number = 1; k = 1; inv = Form.number oneᵛ; guard = Cond.flag 0
 
 -- ---- Modified variables
 
--- An assignment, a draw, a havoc and a call give values to 1, 2, 3 and 4; the guard reads 0, and nothing gives 5 a value.
+-- An assignment, a draw, a havoc and a call assign the variables 1, 2, 3 and 4; the guard reads 0,
+-- and nothing assigns 5.
 abbrev each_kind : Acts
 each_kind = Acts.next (set 1) (Acts.next (Act.draw 2 ((ratio (pos 1) 1, Term.number (Form.number oneᵛ)) ∷ []) nowhere) (Acts.next (Act.any 3 true Ty.UInt nowhere) (only (call (4 ∷ []) 0))))
 
 a_target_of_each_kind : modified head.scope each_kind ≡ 1 ∷ 2 ∷ 3 ∷ 4 ∷ []
 a_target_of_each_kind = refl
 
--- A toss gives its target a value, and no variable of its probability.
+-- A flip assigns its target, and no variable of its probability.
 a_target_of_a_toss : modified head.scope (only (Act.toss 3 (Form.select (Cond.flag 2) (Form.number oneᵛ) (Form.number zeroᵛ)) nowhere)) ≡ 3 ∷ []
 a_target_of_a_toss = refl
 
--- A target in a branch, in either side of a choice and in a loop inside counts.
+-- Targets in a branch, in either block of a choice and in an inner loop count.
 abbrev inside_others : Acts
 inside_others = Acts.next (Act.ifs (Arms.arm (Cond.flag 0) (only (set 5)) Arms.no_arm) (only (set 4)) nowhere) (Acts.next (Act.pick true (only (set 2)) (only (set 1)) nowhere) (only (Act.loop head (only (set 0)))))
 
 targets_inside_others : modified head.scope inside_others ≡ 0 ∷ 1 ∷ 2 ∷ 4 ∷ 5 ∷ []
 targets_inside_others = refl
 
--- Variable 6 isn't in the loop's scope. A check, a reward and a validation have no target.
+-- Variable 6 is not in the loop's scope. A check, a reward and a validation have no target.
 outside_the_scope : modified head.scope (Acts.next (set 6) (Acts.next (Act.reward (Form.variable 1) nowhere) (only (Act.check CheckKind.Assert (Form.variable 2) nowhere)))) ≡ []
 outside_the_scope = refl
 
--- ---- Procedures that are reached
+-- ---- Reached procedures
 
 abbrev calling : Acts → TypedProcedure
 calling acts = record nobody { body = Some acts }
 
--- 0 calls 1 in a loop, 1 calls 2 in a branch, 2 has no body; 3 calls itself; 4 and 5 call each other, and 5 calls 2.
+-- Procedure 0 calls 1 in a loop, 1 calls 2 in a branch, and 2 has no body; 3 calls itself; 4 and 5
+-- call each other, and 5 calls 2.
 abbrev file : List TypedProcedure
 file = calling (only (Act.loop head (only (call [] 1)))) ∷ calling (only (Act.ifs Arms.no_arm (only (call [] 2)) nowhere)) ∷ nobody ∷ calling (only (call [] 3)) ∷ calling (only (call [] 5)) ∷ calling (Acts.next (call [] 4) (only (call [] 2))) ∷ []
 
@@ -74,7 +76,8 @@ recursion = Reaches.directly 3 3 refl
 mutual_recursion : Reaches file 4 4 × Reaches file 5 5
 mutual_recursion = (Reaches.onward 4 5 4 refl (Reaches.directly 5 4 refl), Reaches.onward 5 4 5 refl (Reaches.directly 4 5 refl))
 
--- Without a body nothing is reached; from 1 it is 2 alone, and from 0 it is 1 and 2, not 0 itself.
+-- A procedure without a body reaches nothing; 1 reaches 2 alone, and 0 reaches 1 and 2, but not
+-- itself.
 from_two : (p q : ℕ) → Reaches file p q → p ≡ 2 → ⊥
 from_two _ _ (Reaches.directly p q c) e = false≢true (subst (λ y. Calls file y q) e c)
 from_two _ _ (Reaches.onward p r q c h) e = false≢true (subst (λ y. Calls file y r) e c)
@@ -133,11 +136,11 @@ statements = (refl, refl, refl, refl, refl, refl)
 choices : (why_no_program (calling (choice false Acts.done Acts.done)) ≡ Some (Reason.statement somewhere)) × (why_no_program (weak_proc (choice true Acts.done Acts.done)) ≡ Some (Reason.statement somewhere))
 choices = (refl, refl)
 
--- Of two statements the first in the text counts: a choice before what stands in its sides, an act in a loop before those
--- behind the loop.
+-- The first of two statements in the text counts: a choice before the statements of its blocks, and
+-- the body of a loop before what follows the loop.
 first_statements : (why_no_program (calling (choice false (only (Act.validate true nowhere)) Acts.done)) ≡ Some (Reason.statement somewhere)) × (why_no_program (calling (Acts.next (Act.loop head (check CheckKind.Assert)) (only (Act.validate true nowhere)))) ≡ Some (Reason.statement somewhere)) × (why_no_program (calling (only (Act.ifs (Arms.arm (Cond.flag 0) (check CheckKind.Assert) Arms.no_arm) (only (Act.validate true nowhere)) nowhere))) ≡ Some (Reason.statement somewhere))
 first_statements = (refl, refl, refl)
 
--- Of two reasons the first counts: no body, no `@wlp`, a quantifier, a statement.
+-- The first of two reasons counts: no body, no `@wlp`, a quantifier, a statement.
 two_reasons : (why_no_program (record nobody { co = false }) ≡ Some Reason.no_body) × (why_no_program (quantified nobody) ≡ Some Reason.no_body) × (why_no_program (quantified (plain_proc each_kind)) ≡ Some Reason.no_wlp) × (why_no_program (plain_proc (check CheckKind.Assert)) ≡ Some Reason.no_wlp) × (why_no_program (quantified (calling (check CheckKind.Assert))) ≡ Some Reason.quantifier)
 two_reasons = (refl, refl, refl, refl, refl)

@@ -1,4 +1,4 @@
--- Numbers that are marked, and the list of them.
+-- Marked numbers, and the list of them.
 use Rattle.std.proofs.Common.{◌≡◌, ℕ, Bool, true, false, ◌||◌, ◌+◌, ◌<◌, ◌≤◌, ◌==◌, refl, ap, sym, subst, ◌∙◌, arith, List, [], ◌∷◌, ◌++◌, append_assoc, length, get_or, set, take, ⊎_elim, replicate}
 use Prim.Native.Nat.{zero, suc}
 use Rattle.std.proofs.lemmas.Bool.{cases_eq, eq-eqb, ne_eqb, or_right, false≢true}
@@ -52,7 +52,7 @@ mark_more marks list q m lt h = record {
 
 -- ---- Lists that grow
 
--- One that was there already is asked for.
+-- A number that is already in the list.
 pub grew_same : (before after asked : List ℕ) (x : ℕ) → Grew before after asked → among after x ≡ true → Grew before after (asked ++ x ∷ [])
 grew_same before after asked x g h = record {
   more = g.more;
@@ -60,7 +60,7 @@ grew_same before after asked x g h = record {
   exact = λ q. ⊎_elim (λ e. subst (λ z. among after z ≡ (among before z || among (asked ++ x ∷ []) z)) e (h ∙ sym (or_right (among before x) _ (among_push asked x x ∙ or_right (among asked x) (x == x) (eq-eqb x x refl))))) (λ ne. g.exact q ∙ ap (λ b. among before q || b) (sym (among_push asked x q ∙ (ap (λ b. among asked q || b) (ne_eqb x q ne) ∙ or_false (among asked q))))) (cases_eq x q);
 }
 
--- One is asked for, and appended.
+-- A new number, which is appended.
 pub grew_more : (before after asked : List ℕ) (x : ℕ) → Grew before after asked → Grew before (after ++ x ∷ []) (asked ++ x ∷ [])
 grew_more before after asked x g = record {
   more = g.more ++ x ∷ [];
@@ -71,15 +71,15 @@ grew_more before after asked x g = record {
 pub grew_next : (before after all : List ℕ) (k : ℕ) → k < length all → Grew before after (take k all ++ get_or all k 0 ∷ []) → Grew before after (take (k + 1) all)
 grew_next before after all k lt g = subst (λ l. Grew before after l) (sym (take_more all k 0 lt)) g
 
--- ---- The numbers that are marked
+-- ---- The marked numbers
 
--- They grow, from that of the first mark on.
+-- They grow, from the number of the first mark on.
 pub marked_grow : (n : ℕ) (marks : List Bool) (below : ℕ) → n + length marks ≤ below → GrowBelow n below (marked n marks)
 marked_grow n [] below h = tt
 marked_grow n (true ∷ rest) below h = ((omega arith, omega (arith, h)), marked_grow (suc n) rest below (omega (arith, h)))
 marked_grow n (false ∷ rest) below h = grow_earlier n (suc n) below (marked (suc n) rest) (omega arith) (marked_grow (suc n) rest below (omega (arith, h)))
 
--- A number is among them exactly where it is marked.
+-- A number is among them if and only if it is marked.
 not_before : (n : ℕ) (marks : List Bool) (q : ℕ) → q < n → among (marked n marks) q ≡ false
 not_before n [] q lt = refl
 not_before n (true ∷ rest) q lt = ap (λ b. b || among (marked (suc n) rest) q) (ne_eqb n q (λ e. absurd (omega (arith, lt, e)))) ∙ not_before (suc n) rest q (omega (arith, lt))

@@ -1,4 +1,4 @@
--- The walk over calls: what it keeps, and what it has found at its end.
+-- The walk over calls: its invariant, and its result.
 use Rattle.std.proofs.Common.{◌≡◌, ℕ, Bool, true, false, ◌+◌, ◌<◌, ◌≤◌, ◌==◌, refl, ap, sym, subst, ◌∙◌, arith, List, [], ◌∷◌, ◌++◌, length, get_or, take, ⊎_elim}
 use Prim.Native.Nat.{zero, suc}
 use Rattle.std.proofs.lemmas.Bool.{cases_lt, eqb-true, eq-eqb, or_cases, or_left, or_right, false≢true}
@@ -11,7 +11,8 @@ use Rattle.proc_contracts.specs.internal.CallWalk.{AreCalled, ReachIsMarked}
 use Rattle.proc_contracts.specs.internal.MarkedNumbers.{AreMarked, Grew, marked}
 use Rattle.proc_contracts.proofs.Marks.{among_push, marked_are, marked_grow}
 
--- The list holds procedures that one reaches, those that it calls itself, and what the first ones of the list call.
+-- The list holds procedures that `p` reaches, among them those that `p` calls and those that the
+-- procedures before `next` call.
 pub record OnTheWay (ps : List TypedProcedure) (p : ℕ) (marks : List Bool) (list : List ℕ) (next : ℕ) : Type 0 where
   pub are_marked : AreMarked marks list
   pub sized : length marks ≡ length ps
@@ -31,7 +32,6 @@ among_read (x ∷ xs) (suc i) d lt = or_right (x == get_or xs i d) _ (among_read
 pub stands : (xs : List ℕ) (i x : ℕ) → i < length xs → x ≡ get_or xs i x → among xs x ≡ true
 stands xs i x lt is = subst (λ y. among xs y ≡ true) (sym is) (among_read xs i x lt)
 
--- A number of the list is that of a mark.
 pub below_marks : (marks : List Bool) (list : List ℕ) (q : ℕ) → AreMarked marks list → among list q ≡ true → q < length marks
 below_marks marks list q m h = ⊎_elim (λ lt. lt) (λ past. absurd (false≢true (sym (get_or_past marks q false past) ∙ (m.same q ∙ h)))) (cases_lt q (length marks))
 
@@ -53,7 +53,7 @@ started ps p called marks list a m l g = record {
 one_more : (list after called : List ℕ) (next x : ℕ) → next < length list → x ≡ get_or list next x → Grew list after called → take (next + 1) after ≡ take next list ++ x ∷ []
 one_more list after called next x lt is g = ap (λ xs. take (next + 1) xs) g.behind ∙ (take-append-le (next + 1) list g.more (omega (arith, lt)) ∙ (take_more list next x lt ∙ ap (λ y. take next list ++ y ∷ []) (sym is)))
 
--- What the next of the list calls is added.
+-- The step that adds what the next procedure of the list calls.
 pub further_on : (ps : List TypedProcedure) (p : ℕ) (marks after_marks : List Bool) (list after called : List ℕ) (next x : ℕ) → OnTheWay ps p marks list next → next < length list → x ≡ get_or list next x → AreCalled ps x called → AreMarked after_marks after → length after_marks ≡ length marks → Grew list after called → OnTheWay ps p after_marks after (next + 1)
 further_on ps p marks after_marks list after called next x w lt is a m l g = record {
   are_marked = m;
@@ -63,7 +63,7 @@ further_on ps p marks after_marks list after called next x w lt is a m l g = rec
   closed = λ q r h c. ⊎_elim (λ old. kept list after called r g (w.closed q r old c)) (λ new. added list after called r g (a.each r ∙ subst (λ y. Calls ps y r) (sym (eqb-true x q new)) c)) (or_cases (among (take next list) q) (x == q) (sym (among_push (take next list) x q) ∙ (ap (λ xs. among xs q) (sym (one_more list after called next x lt is g)) ∙ h)));
 }
 
--- The one itself needs no second look.
+-- The step for `p` itself, which adds nothing.
 pub past_itself : (ps : List TypedProcedure) (p : ℕ) (marks : List Bool) (list : List ℕ) (next x : ℕ) → OnTheWay ps p marks list next → next < length list → x ≡ get_or list next x → x ≡ p → OnTheWay ps p marks list (next + 1)
 past_itself ps p marks list next x w lt is own = record {
   are_marked = w.are_marked;
@@ -91,7 +91,7 @@ finished ps p marks list next w over = record {
     all _ _ (Reaches.directly a q c) e = w.first q (subst (λ y. Calls ps y q) e c)
     all _ _ (Reaches.onward a b q c rest) e = on b q (w.first b (subst (λ y. Calls ps y b) e c)) rest
 
--- The numbers that are marked are those that are reached.
+-- At the end, the marked numbers are the reached ones.
 pub marked_are_reached : (ps : List TypedProcedure) (p : ℕ) (marks : List Bool) → ReachIsMarked ps p marks → AreReached ps p (marked 0 marks)
 marked_are_reached ps p marks r = record {
   growing = marked_grow 0 marks (length ps) (let l = r.length_is in omega (arith, l));

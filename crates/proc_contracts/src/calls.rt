@@ -11,15 +11,17 @@ use act_walks::in_order;
 use heyvl_acts::{Act, TProc};
 use std::alloc::{AllocError, Global};
 
-/// The procedures that the body calls, in the order of the text, with repeats.
+/// Returns the procedures that a body calls, in the order of the text, each as often as it is
+/// called.
 pub(crate) fn calls_of(alloc: Global, procedure: &TProc) -> Result<Vec<u32>, AllocError>
-    ensures { IfOk result (λ called. called.items ≡ callees (in_order (acts_in (procedure_of procedure.now).body))) }
+    ensures { IfOk result (λ called. called.items
+        ≡ callees (in_order (acts_in (procedure_of procedure.now).body))) }
 {
     let all = in_order(alloc, procedure)?;
     calls_among(alloc, &all)
 }
 
-/// The procedures that these acts call themselves.
+/// Returns the procedures that the acts of a list call, without the acts inside them.
 fn calls_among(alloc: Global, all: &[&Act]) -> Result<Vec<u32>, AllocError>
     ensures { IfOk result (λ called. called.items ≡ callees (map lent all.now)) }
 {

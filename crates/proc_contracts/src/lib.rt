@@ -1,4 +1,5 @@
-//! What procedures modify and reach, and which of them are programs.
+//! The variables that loops modify, the procedures that others reach, and the reasons against
+//! programs. `AllocError` means that memory ran out.
 #![tactic(auto)]
 
 mod calls;

@@ -1,4 +1,4 @@
-//! Programs: procedures that a run can execute, without checks and with choices of one direction alone.
+//! Programs: procedures whose bound is about runs.
 
 ghost use Rattle.heyvl_acts.specs.Acts.{procedure_at};
 ghost use Rattle.heyvl_acts.specs.Places.{in_order, inside};
@@ -11,7 +11,8 @@ use crate::reasons::WhyNot;
 use heyvl_acts::{Act, TProc, Typed};
 use heyvl_places::Span;
 
-/// The first reason for which the procedure is no program; none exactly where it is one. It takes no memory.
+/// Returns the first reason why the procedure `p` is not a program, or `None` if it is one. It
+/// allocates nothing.
 pub fn not_program(typed: &Typed, p: u32) -> Option<WhyNot>
     requires { p < length typed.now.procs.items }
     ensures { stated result ≡ why_no_program (procedure_at (procedures_of typed.now) p) }
@@ -34,7 +35,8 @@ fn why_not(procedure: &TProc) -> Option<WhyNot>
     first_break(procedure.co, acts).map(WhyNot::Statement)
 }
 
-/// The first of the acts, those inside others among them, that no program of this direction has.
+/// Returns the place of the first of the acts, also of those inside others, that no program of this
+/// direction has.
 #[cycle(breaking)]
 fn first_break(co: bool, acts: &[Act]) -> Option<Span>
     ensures { result ≡ first_break co (in_order (acts_of acts.now)) }
@@ -47,7 +49,8 @@ fn first_break(co: bool, acts: &[Act]) -> Option<Span>
     None
 }
 
-/// The same for one act and those inside it.
+/// Returns the place of the first act, of `act` and those inside it, that no program of this
+/// direction has.
 #[cycle(breaking)]
 fn break_from(co: bool, act: &Act) -> Option<Span>
     ensures { result ≡ first_break co (act_of act.now ∷ inside (act_of act.now)) }

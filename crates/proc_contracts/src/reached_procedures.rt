@@ -1,4 +1,4 @@
-//! The procedures that one reaches by calls.
+//! The procedures that a procedure reaches by calls.
 
 ghost use Rattle.heyvl_acts.specs.PlainActs.{procedures_of};
 ghost use Rattle.heyvl_acts.specs.Rules.{MeetsAllRules};
@@ -12,8 +12,8 @@ use crate::calls::calls_of;
 use heyvl_acts::Typed;
 use std::alloc::{AllocError, Global};
 
-/// The procedures that the procedure calls in one or more steps, by number; it is among them only where it reaches itself. Each
-/// body is walked once.
+/// Returns the numbers of the procedures that `p` calls in one or more steps, in ascending order;
+/// `p` is among them only if it reaches itself. Each body is visited once.
 pub fn reach(alloc: Global, typed: &Typed, p: u32) -> Result<Vec<u32>, AllocError>
     requires there { p < length typed.now.procs.items }
     requires rules { MeetsAllRules typed.now }
@@ -23,7 +23,7 @@ pub fn reach(alloc: Global, typed: &Typed, p: u32) -> Result<Vec<u32>, AllocErro
     numbers_of(alloc, &marks)
 }
 
-/// The procedures that it reaches, as marks.
+/// Returns the procedures that `p` reaches as marks.
 fn reached(alloc: Global, typed: &Typed, p: u32) -> Result<Vec<bool>, AllocError>
     requires there { p < length typed.now.procs.items }
     requires rules { MeetsAllRules typed.now }
@@ -45,7 +45,7 @@ fn reached(alloc: Global, typed: &Typed, p: u32) -> Result<Vec<bool>, AllocError
     Ok(marks)
 }
 
-/// The procedures that one calls.
+/// Returns the procedures that the body of `p` calls.
 fn called_by(alloc: Global, typed: &Typed, p: u32) -> Result<Vec<u32>, AllocError>
     requires there { p < length typed.now.procs.items }
     requires rules { MeetsAllRules typed.now }
@@ -54,7 +54,7 @@ fn called_by(alloc: Global, typed: &Typed, p: u32) -> Result<Vec<u32>, AllocErro
     calls_of(alloc, &typed.procs[p as usize])
 }
 
-/// Those that aren't marked yet are marked, and appended to the list.
+/// Marks the numbers of `all` that are not marked yet, and appends them to `order`.
 fn add_new(marks: &mut Vec<bool>, order: &mut Vec<u32>, all: &[u32]) -> Result<(), AllocError>
     requires marked { AreMarked marks.old.items order.old.items }
     requires below { All (λ q. q < length marks.old.items) all.now }
@@ -72,7 +72,7 @@ fn add_new(marks: &mut Vec<bool>, order: &mut Vec<u32>, all: &[u32]) -> Result<(
     Ok(())
 }
 
-/// The numbers that are marked, in their order.
+/// Returns the marked numbers in ascending order.
 fn numbers_of(alloc: Global, marks: &[bool]) -> Result<Vec<u32>, AllocError>
     requires { length marks.now ≤ 2 ^ 31 }
     ensures { IfOk result (λ found. found.items ≡ marked 0 marks.now) }

@@ -1,8 +1,8 @@
-//! Why a procedure is no program.
+//! Why a procedure is not a program.
 
 use heyvl_places::Span;
 
-/// Why a procedure is no program.
+/// The reason why a procedure is not a program.
 #[derive(Clone, Copy, Debug)]
 pub enum WhyNot {
     /// It has no body.
@@ -11,7 +11,7 @@ pub enum WhyNot {
     NoWlp,
     /// Its post has a quantifier.
     Quantifier,
-    /// The first statement in the text of its body that no program of its direction has: a check, a validation, or a choice
-    /// of the other direction.
+    /// The place of the first statement of its body that no program of its direction has: a check,
+    /// a validation, or a choice of two blocks in the other direction.
     Statement(Span),
 }

@@ -1,26 +1,28 @@
--- Marks of numbers, and lists of the numbers that are marked.
-use Rattle.std.specs.Prelude.{◌≡◌, ◌+◌, ℕ, Bool, true, false, ◌||◌, List, [], ◌∷◌, ◌++◌, get_or, length}
+-- Marks on numbers, and lists of marked numbers.
+use Rattle.std.specs.Prelude.{◌≡◌, ◌+◌, ℕ, Bool, true, false, ◌||◌, List, [], ◌∷◌, ◌++◌, get_or}
+use Rattle.std.specs.Prelude.{length}
 use Prim.Native.Nat.{suc}
 use Rattle.heyvl_acts.specs.Visible.{among}
 
--- How many marks aren't set.
+-- The number of marks that are not set.
 abbrev pub unset : List Bool → ℕ
 unset [] = 0
 unset (true ∷ rest) = unset rest
 unset (false ∷ rest) = suc (unset rest)
 
--- The numbers that are marked, where the first mark is that of n.
+-- The marked numbers, where the first mark belongs to `n`.
 abbrev pub marked : ℕ → List Bool → List ℕ
 marked n [] = []
 marked n (true ∷ rest) = n ∷ marked (suc n) rest
 marked n (false ∷ rest) = marked (suc n) rest
 
--- Marked are the numbers of the list, which holds each once.
+-- The marked numbers are those of the list, which has each once.
 pub record AreMarked (marks : List Bool) (list : List ℕ) : Type 0 where
   pub same : (q : ℕ) → get_or marks q false ≡ among list q
   pub once : unset marks + length list ≡ length marks
 
--- The list grew, by numbers that were asked for, and has all of those.
+-- `Grew before after asked`: the list `after` extends `before` by numbers of `asked`, and has all
+-- of them.
 pub record Grew (before after asked : List ℕ) : Type 0 where
   pub more : List ℕ
   pub behind : after ≡ before ++ more

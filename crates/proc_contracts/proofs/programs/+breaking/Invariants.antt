@@ -5,7 +5,7 @@ use Rattle.heyvl_acts.specs.Program.{first_break}
 use Rattle.heyvl_acts.proofs.exported.ActsInOrder.{acts_from, arms_from}
 use Rattle.proc_contracts.proofs.programs.+breaking.Given as goal
 
--- The first of the rest is the first of all.
+-- The first break of the remaining acts is the first of all.
 abbrev pub invariant-first_break-loop-act : goal.invariant-first_break-loop-act
 invariant-first_break-loop-act l = first_break l.co (acts_from l.acts l.act-index) ≡ first_break l.co (in_order (acts_of l.acts))
 

@@ -2,7 +2,7 @@ use Rattle.std.proofs.Common.{◌≡◌, ◌++◌, drop}
 use Rattle.proc_contracts.specs.internal.MarkedNumbers.{marked}
 use Rattle.proc_contracts.proofs.reached_procedures.numbers_of.Given as goal
 
--- What is found and what is marked of the rest are what is marked.
+-- The numbers found so far and the marked ones among the rest are all marked numbers.
 abbrev pub invariant-loop-mark : goal.invariant-loop-mark
 invariant-loop-mark l = record {
   counted : l.number ≡ l.mark-index;
