@@ -1,4 +1,5 @@
--- A form has no more binders than nodes, and prenexed variables keep the types of the first ones.
+-- A form has no more binders than nodes, and the types of prenexed variables begin with the given
+-- ones.
 use Rattle.std.proofs.Common.{◌≡◌, ℕ, ◌≤◌, ◌+◌, refl, sym, ap, ◌∙◌, arith, List, [], ◌∷◌, ◌++◌, map}
 use Rattle.std.proofs.Math.ListN.{length}
 use Prim.Native.Nat.{suc}
@@ -56,7 +57,6 @@ map_end : (vs : List VarInfo) (v : VarInfo) → types_of_variables (vs ++ v ∷ 
 map_end [] v = refl
 map_end (u ∷ vs) v = ap (λ l. u.ty ∷ l) (map_end vs v)
 
--- the types of the variables of a prenexed form
 pub named_types : (vs : List VarInfo) (bs : List Binder) → types_of_variables (named vs bs) ≡ types_of_variables vs ++ new_types bs
 named_types vs [] = sym (append-nil (types_of_variables vs))
 named_types vs (b ∷ bs) = named_types (vs ++ (record { name = name_of vs b.0; ty = b.1 } ∷ [])) bs ∙ ap (λ l. l ++ new_types bs) (map_end vs (record { name = name_of vs b.0; ty = b.1 })) ∙ append_assoc (types_of_variables vs) (b.1 ∷ []) (new_types bs)

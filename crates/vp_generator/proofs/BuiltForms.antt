@@ -1,4 +1,4 @@
--- What the code that builds a form is asked: what is built so far, and that a limit that a part passes is passed by the whole.
+-- A limit that a part of a form exceeds is exceeded by the whole form.
 use Rattle.std.proofs.Common.{◌≡◌, ℕ, ◌≤◌, Bool, true, false, sym, ap, ◌∙◌, refl, subst, arith, List, [], ◌∷◌, ◌++◌}
 use Rattle.std.specs.Prelude.{Vec}
 use Rattle.std.specs.declared.alloc.Global.{Global}
@@ -19,7 +19,6 @@ use Rattle.vp_generator.specs.GraphAnswers.{IsStopAt}
 use Rattle.heyvl_acts.specs.PlainActs.{act_of, acts_of, arms_of, parts_of}
 use Rattle.vp_generator.proofs.Growth.{grow_acts, deepen_acts, grow_over, deepen_over, grow_sum, deepen_sum}
 
--- a limit that a part passes is passed by the whole
 pub stop_of_part : (most : ℕ) (f g : Form) (stop : VpStop) → nodes f ≤ nodes g → depth f ≤ depth g → IsStopAt most f stop → IsStopAt most g stop
 stop_of_part most f g Depth h k i = omega (arith, k, i)
 stop_of_part most f g Nodes h k i = omega (arith, h, i)
@@ -33,7 +32,6 @@ pub acts_fit : (types : Types) (r : List A.Act) (a : A.Act) → ActsFit types (a
 acts_fit types [] a h = (tt, h.0)
 acts_fit types (b ∷ r) a h = let k = acts_fit types r a h.1 in ((h.0, k.0), k.1)
 
--- a limit that is passed after the last acts is passed by all
 pub stop_of_acts : (most : ℕ) (types : Types) (r : List A.Act) (f : Form) (stop : VpStop) → ActsFit types (acts_of r) → IsStopAt most f stop → IsStopAt most (vp (acts_of r) f) stop
 stop_of_acts most types r f stop h i = stop_of_part most f (vp (acts_of r) f) stop (grow_acts types (acts_of r) f h) (deepen_acts types (acts_of r) f h) i
 
@@ -51,21 +49,18 @@ stop_of_arms most r k f stop i = stop_of_part most f (vp_arms (arms_of r) k f) s
 pub stop_of_sum : (most : ℕ) (x : ℕ) (ps : List (Rational × Term)) (k f : Form) (stop : VpStop) → IsStopAt most f stop → IsStopAt most (sum_of_parts x ps k f) stop
 stop_of_sum most x ps k f stop i = stop_of_part most f (sum_of_parts x ps k f) stop (grow_sum x ps k f) (deepen_sum x ps k f) i
 
--- a limit that is passed after one more part is passed after all
 pub stop_of_step : (most : ℕ) (x : ℕ) (parts rest more : List (Rational × T.Term)) (p : Rational × T.Term) (k start total : Form) (stop : VpStop) → sum_of_parts x (parts_of parts) k start ≡ sum_of_parts x (parts_of rest) k total → rest ≡ p ∷ more → IsStopAt most (Form.sum total (part_form x (p.0, term_of p.1) k)) stop → IsStopAt most (sum_of_parts x (parts_of parts) k start) stop
 stop_of_step most x parts rest more p k start total stop e d h = subst (λ f. IsStopAt most f stop) (sym (e ∙ ap (λ r. sum_of_parts x (parts_of r) k total) d)) (stop_of_sum most x (parts_of more) k (Form.sum total (part_form x (p.0, term_of p.1) k)) stop h)
 
 pub stop_of_draw : (most : ℕ) (x : ℕ) (parts more : List (Rational × T.Term)) (p : Rational × T.Term) (k : Form) (stop : VpStop) → parts ≡ p ∷ more → IsStopAt most (part_form x (p.0, term_of p.1) k) stop → IsStopAt most (draw_form x (parts_of parts) k) stop
 stop_of_draw most x parts more p k stop d h = subst (λ f. IsStopAt most f stop) (sym (ap (λ r. draw_form x (parts_of r) k) d)) (stop_of_sum most x (parts_of more) k (part_form x (p.0, term_of p.1) k) stop h)
 
--- the same over acts, and over the arms of an if
 pub stop_of_act : (most : ℕ) (types : Types) (acts rest before : List A.Act) (a : A.Act) (k f : Form) (stop : VpStop) → vp (acts_of acts) k ≡ vp (acts_of rest) f → rest ≡ before ++ a ∷ [] → ActsFit types (acts_of rest) → IsStopAt most (vp_act (act_of a) f) stop → IsStopAt most (vp (acts_of acts) k) stop
 stop_of_act most types acts rest before a k f stop e d b h = subst (λ g. IsStopAt most g stop) (sym (e ∙ ap (λ r. vp (acts_of r) f) d ∙ acts_end before a f)) (stop_of_acts most types before (vp_act (act_of a) f) stop (acts_fit types before a (subst (λ r. ActsFit types (acts_of r)) d b)).0 h)
 
 pub stop_of_arm : (most : ℕ) (arms rest before : List (C.Cond × Vec A.Act Global)) (x : C.Cond × Vec A.Act Global) (k start f : Form) (stop : VpStop) → vp_arms (arms_of arms) k start ≡ vp_arms (arms_of rest) k f → rest ≡ before ++ x ∷ [] → IsStopAt most (Form.select (cond_of x.0) (vp (acts_of x.1.items) k) f) stop → IsStopAt most (vp_arms (arms_of arms) k start) stop
 stop_of_arm most arms rest before x k start f stop e d h = subst (λ g. IsStopAt most g stop) (sym (e ∙ ap (λ r. vp_arms (arms_of r) k f) d ∙ arms_end before x k f)) (stop_of_arms most before k (Form.select (cond_of x.0) (vp (acts_of x.1.items) k) f) stop h)
 
--- a limit that a part of a choice passes
 pub stop_of_first : (most : ℕ) (up : Bool) (a b : Form) (stop : VpStop) → IsStopAt most a stop → IsStopAt most (pick_form up a b) stop
 stop_of_first most true a b stop h = stop_of_part most a (Form.max a b) stop (omega arith) (omega arith) h
 stop_of_first most false a b stop h = stop_of_part most a (Form.min a b) stop (omega arith) (omega arith) h
@@ -74,7 +69,6 @@ pub stop_of_second : (most : ℕ) (up : Bool) (a b : Form) (stop : VpStop) → I
 stop_of_second most true a b stop h = stop_of_part most b (Form.max a b) stop (omega arith) (omega arith) h
 stop_of_second most false a b stop h = stop_of_part most b (Form.min a b) stop (omega arith) (omega arith) h
 
--- a limit that a part of another node passes
 pub stop_of_scale : (most : ℕ) (w : Rational) (f : Form) (stop : VpStop) → IsStopAt most f stop → IsStopAt most (Form.scale w f) stop
 stop_of_scale most w f stop h = stop_of_part most f (Form.scale w f) stop (omega arith) (omega arith) h
 

@@ -1,4 +1,5 @@
--- The generated form has binders of the direction alone, under operators that keep the best value.
+-- The binders of the generated form have the procedure's direction, below operators that keep the
+-- best value.
 use Rattle.std.proofs.Common.{◌≡◌, ℕ, refl, sym, ap, ap₂, ◌∙◌, subst, Bool, true, false, not, ◌||◌, ◌&&◌, List, [], ◌∷◌, ◌++◌}
 use Rattle.heyvl_num.specs.Rational.{Rational}
 use Rattle.heyvl_places.specs.declared.spans.Span.{Span}
@@ -29,7 +30,6 @@ binds_append : (xs ys : List Act) → any_binds (xs ++ ys) ≡ false → (any_bi
 binds_append [] ys h = (refl, h)
 binds_append (a ∷ xs) ys h = let k = or_false (binds a) (any_binds (xs ++ ys)) h in let l = binds_append xs ys k.1 in (neither k.0 l.0, l.1)
 
--- what is said of a list is said of its first part, with what the second part binds behind it
 before : (co s : Bool) (xs ys : List Act) → NothingBindsBehind co s (xs ++ ys) → NothingBindsBehind co (s || any_binds ys) xs
 before co s [] ys h = tt
 before co s (a ∷ xs) ys h = ((λ e. let k = or_false s (any_binds (xs ++ ys)) (h.0 e) in let l = binds_append xs ys k.1 in neither (neither k.0 l.1) l.0), before co s xs ys h.1)

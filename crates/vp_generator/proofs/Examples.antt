@@ -1,4 +1,5 @@
--- Rows worked by hand: what each act gives, acts that put a term into what another one gives, and numbers of binders.
+-- Rows worked by hand: the form of each act, acts that substitute a term into the form of another
+-- one, and numbers of binders.
 use Rattle.std.proofs.Common.{◌≡◌, ℕ, refl, sym, true, false, [], ◌∷◌, Bool}
 use Rattle.std.proofs.lemmas.Bool.{false≢true}
 use Rattle.std.specs.Prelude.{pos, Option, Some, None, ℤ}
@@ -32,7 +33,8 @@ one a = Acts.next a Acts.done
 abbrev both : Act → Act → Acts
 both a b = Acts.next a (one b)
 
--- ---- A fair coin, and then any Boolean: 13 nodes, depth 6, and two binders, each with a number of its own
+-- ---- A fair coin, and then any Boolean: 13 nodes, depth 6, and two binders, each with its own
+-- number
 
 abbrev guess : Rational → Acts
 guess half = both (Act.draw 0 ((half, Term.truth (Cond.constant true)) ∷ (half, Term.truth (Cond.constant false)) ∷ []) nowhere) (Act.any 1 true Ty.Bool nowhere)
@@ -65,12 +67,13 @@ draw_row : (p q r : Rational) → vp (one (Act.draw 0 ((p, Term.number (Form.var
 unfolding Replaced.subst
 draw_row p q r = refl
 
--- The weight stands in both products, which have the toss's place.
+-- The weight occurs in both products, which have the toss's place.
 toss_row : (p : Form) (span : Span) → vp (one (Act.toss 0 p span)) (Form.iverson (Cond.flag 0)) ≡ Form.sum (Form.product (Form.min p (Form.number oneᵛ)) (Form.iverson (Cond.constant true)) span) (Form.product (Form.cut (Form.number oneᵛ) (Form.min p (Form.number oneᵛ))) (Form.iverson (Cond.constant false)) span)
 unfolding Replaced.subst
 toss_row p span = refl
 
--- A toss of one number where the Bool holds and of another where not: true counts 1, false 4.
+-- A toss with one probability if the Bool holds, and another if it does not: true counts 1, false
+-- 4.
 abbrev whole : ℕ → Form
 whole n = Form.number (finite (ratio (pos n) 1))
 
@@ -84,13 +87,13 @@ tossed a b t = parts (value (vp (one (Act.toss 0 (by_flag a b) nowhere)) (by_fla
     parts (finite q) = Some (q.num, q.den)
     parts infinite = None
 
--- 1/3 and 2, and then 1 and 0.
+-- The weights 1/3 and 2, and then 1 and 0.
 toss_values : (tossed (Form.number (finite (ratio (pos 1) 3))) (whole 2) true ≡ Some (pos 3, 1)) × (tossed (Form.number (finite (ratio (pos 1) 3))) (whole 2) false ≡ Some (pos 1, 1)) × (tossed (whole 1) (whole 0) true ≡ Some (pos 1, 1)) × (tossed (whole 1) (whole 0) false ≡ Some (pos 4, 1))
 unfolding tossed Replaced.subst ratio gcd gcd_steps ◌+ʳ◌ ◌-ʳ◌ ◌*ʳ◌ negʳ leqʳ leqᵛ minᵛ monusᵛ ◌+ᵛ◌ ◌*ᵛ◌ infinite_times is_zeroʳ zeroʳ oneʳ zeroᵛ oneᵛ
 toss_values = (refl, refl, refl, refl)
 
--- The laws of the generated form ask no more of a weight than its type: a variable of type UReal weighs a toss, though the language's
--- rules refuse it.
+-- The laws of the generated form require only that a weight has its type: a variable of type UReal
+-- is allowed, although the static rules refuse it.
 abbrev numbers_behind : Types
 numbers_behind = types_in (Ty.Bool ∷ Ty.UReal ∷ [])
 
@@ -100,7 +103,7 @@ variable_weighs = (refl, ((refl, refl), refl))
 no_probability : IsProbability numbers_behind (Form.variable 1) → ⊥
 no_probability h = false≢true (sym h.1.1)
 
--- Each side has binders of its own.
+-- Each side has its own binders.
 toss_binders : binders (vp (both (Act.toss 0 (Form.iverson (Cond.flag 2)) nowhere) (Act.any 1 true Ty.Bool nowhere)) same_values) ≡ (1, Ty.Bool) ∷ (1, Ty.Bool) ∷ []
 unfolding Replaced.subst
 toss_binders = refl
@@ -132,9 +135,9 @@ coassume_row k f = refl
 validate_rows : (k : Form) → (vp (one (Act.validate false nowhere)) k ≡ Form.validate k) × (vp (one (Act.validate true nowhere)) k ≡ Form.co_validate k)
 validate_rows k = (refl, refl)
 
--- ---- Acts that put a term into what another one gives
+-- ---- Acts that substitute a term into the form of another one
 
--- y := x; x := y + z, over x + y: what is put in for x holds y, for which x is put in then
+-- y := x; x := y + z, over x + y: the term for x contains y, for which x is substituted then
 set_before_set : vp (both (Act.set 1 (Term.number (Form.variable 0)) nowhere) (Act.set 0 (Term.number (Form.sum (Form.variable 1) (Form.variable 2))) nowhere)) (Form.sum (Form.variable 0) (Form.variable 1)) ≡ Form.sum (Form.sum (Form.variable 0) (Form.variable 2)) (Form.variable 0)
 unfolding Replaced.subst
 set_before_set = refl
@@ -149,7 +152,8 @@ any_before_set : vp (both (Act.any 0 true Ty.UInt nowhere) (Act.set 1 (Term.numb
 unfolding Replaced.subst
 any_before_set = refl
 
--- y := x; any x, over x + y: the binder takes the first number from 1,048,576 on, and keeps its name
+-- y := x; any x, over x + y: the binder takes the first number from 1,048,576 on, and keeps its
+-- name
 set_before_any : vp (both (Act.set 1 (Term.number (Form.variable 0)) nowhere) (Act.any 0 true Ty.UInt nowhere)) (Form.sum (Form.variable 0) (Form.variable 1)) ≡ Form.bind true 1048576 0 Ty.UInt (Form.sum (Form.variable 1048576) (Form.variable 0))
 unfolding Replaced.subst Replaced.fresh Replaced.least_unused
 set_before_any = refl
@@ -178,7 +182,7 @@ binder_in_a_binder = refl
 two_binders_of_one_variable : prenexed 1 (Form.sum (Form.sum (Form.bind true 0 0 Ty.UInt (Form.variable 0)) (Form.bind true 0 0 Ty.UInt (Form.variable 0))) (Form.variable 0)) ≡ Form.sum (Form.sum (Form.variable 1) (Form.variable 2)) (Form.variable 0)
 two_binders_of_one_variable = refl
 
--- sup x. sup x. x: the inner binder counts
+-- sup x. sup x. x: the inner binder is the one that is meant
 binder_of_a_bound_variable : prenexed 1 (Form.bind true 0 0 Ty.UInt (Form.bind true 0 0 Ty.UInt (Form.variable 0))) ≡ Form.variable 2
 binder_of_a_bound_variable = refl
 

@@ -1,4 +1,5 @@
--- In a state in which a prenexed goal fails, the inequality fails for the choices that the values of the new variables are.
+-- In a state in which a prenexed goal fails, the inequality fails for the choices that are the
+-- values of the new variables.
 use Rattle.std.proofs.Common.{◌≡◌, ◌<◌, ◌+◌, ℕ, refl, sym, ◌∙◌, subst, arith, false, List, [], ◌∷◌, ◌++◌, length, get_or, take}
 use Prim.Native.Nat.{zero, suc}
 use Rattle.heylo_formula.proofs.exported.Agreement.{same_on}

@@ -1,4 +1,5 @@
--- A term that fits a free variable of a well-typed form is counted in full where it is put in.
+-- A term of the right type that is substituted for a free variable of a well-typed form counts with
+-- all its nodes.
 use Rattle.std.proofs.Common.{◌≡◌, ℕ, ◌+◌, ◌≤◌, refl, sym, ap, ◌∙◌, subst, arith, Bool, true, false, cond, ◌==◌, ◌||◌}
 use Rattle.std.specs.Prelude.{Option, Some, None}
 use Rattle.heylo_formula.specs.Formula.{Form, Cond, Term}
@@ -12,7 +13,7 @@ use Rattle.heylo_formula.proofs.exported.Plain.{and_both}
 use Rattle.heylo_formula.proofs.exported.Substitutions.{count_subst}
 use Rattle.vp_generator.specs.internal.FittingActs.{TermIsFit}
 
--- ---- The parts of what has a type
+-- ---- The parts of a form with a type
 
 abbrev has_type : Option NumberType → Bool
 has_type (Some t) = true
@@ -53,9 +54,10 @@ number_kind Ty.Int h = refl
 number_kind Ty.UInt h = refl
 number_kind Ty.UReal h = refl
 
--- ---- What is counted
+-- ---- Counts
 
--- a term of so many nodes counts in full as what its variable's kind asks for
+-- A term of `size` nodes counts with all of them, as a form or as a condition, by the type of its
+-- variable.
 record Counts (ty : Ty) (size form cond : ℕ) : Type 0 where
   pub flag : is_bool ty ≡ true → size ≤ cond
   pub number : is_bool ty ≡ false → size ≤ form

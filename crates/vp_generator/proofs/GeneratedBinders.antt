@@ -1,4 +1,4 @@
--- No binder comes of acts that give no variable any value.
+-- Acts that give no variable any value generate no binder.
 use Rattle.std.proofs.Common.{◌≡◌, ℕ, refl, ◌∙◌, Bool, true, false, ◌||◌, List, [], ◌∷◌}
 use Rattle.heyvl_num.specs.Rational.{Rational}
 use Rattle.heyvl_places.specs.declared.spans.Span.{Span}

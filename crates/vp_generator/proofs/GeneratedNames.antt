@@ -1,4 +1,5 @@
--- The binders of a generated form have the names of variables that acts give any value, or of the post's binders.
+-- The binders of a generated form have names of variables that acts give any value, or of the
+-- post's binders.
 use Rattle.std.proofs.Common.{◌≡◌, ℕ, refl, sym, ap₂, subst, Bool, true, false, ◌||◌, List, [], ◌∷◌, ◌++◌}
 use Rattle.heyvl_num.specs.Rational.{Rational}
 use Rattle.heyvl_num.specs.Value.{oneᵛ}

@@ -1,4 +1,4 @@
--- The free variables of the generated form are those of the acts and of the post.
+-- The free variables of the generated form are among those of the acts and of the post.
 use Rattle.std.proofs.Common.{◌≡◌, ℕ, ◌<◌, Bool, true, false, cond, ◌==◌, List, [], ◌∷◌}
 use Rattle.heyvl_num.specs.Rational.{Rational}
 use Rattle.heyvl_num.specs.Value.{Value, oneᵛ}
@@ -38,7 +38,6 @@ over_validate n false a h = h
 over_number : (n : ℕ) (v : Value) → IsOver n (Form.number v)
 over_number n v = λ y j. absurd (cc)
 
--- both products of a toss, over the formula and what follows
 over_toss : (n x : ℕ) (f : Form) (span : Span) (k : Form) → IsOver n f → IsOver n k → IsOver n (toss_form x f span k)
 over_toss n x f span k h i =
     let one = Form.number oneᵛ in

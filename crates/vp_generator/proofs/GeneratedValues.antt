@@ -25,7 +25,6 @@ use Rattle.vp_generator.specs.GeneratedForms.{pick_form, check_form, validate_fo
 use Rattle.heyvl_acts.specs.WellTypedActs.{PartsFit, ActFits, ActsFit, ArmsFit}
 use Rattle.heylo_formula.proofs.exported.Plain.{term_plain, typed_plain}
 
--- the operators of forms have the values of those of numbers
 pick_value : (up : Bool) (a b : Form) (s : Env) (c : Choices) → value (pick_form up a b) s c ≡ picked up (value a s (left c)) (value b s (right c))
 pick_value true a b s c = refl
 pick_value false a b s c = refl
@@ -47,7 +46,6 @@ parts_value : (types : Types) (x : ℕ) (ps : List (Rational × Term)) (k total 
 parts_value types x [] k total before h e s c = e s c
 parts_value types x (p ∷ ps) k total before h e s c = parts_value types x ps k (Form.sum total (part_form x p k)) _ h.1 (λ r d. ap₂ (λ u v. u +ᵛ v) (e r (left d)) (part_value types x p ps k r (right d) h)) s c
 
--- the first weight, and the rest
 least_weight : (v : Value) → minᵛ v oneᵛ ≡ finite (finite_part (minᵛ v oneᵛ))
 least_weight v = go (minᵛ v oneᵛ) (min_below_right v oneᵛ)
   where

@@ -1,4 +1,5 @@
--- One step of the code that makes a form, over the last act, over the last arm, and over the next part of a draw.
+-- One step of the functions that generate a form: for the last act, for the last arm, and for the
+-- next part of a draw.
 use Rattle.std.proofs.Common.{◌≡◌, ℕ, ◌+◌, ◌^◌, ◌≤◌, Bool, refl, length, sym, ap, ap₂, ◌∙◌, subst, arith, List, [], ◌∷◌, ◌++◌}
 use Rattle.std.specs.Prelude.{Vec, Ok}
 use Rattle.std.specs.declared.alloc.Global.{Global}
@@ -48,14 +49,13 @@ none_in (b ∷ r) a h = let k = none_in r a h.1 in ((h.0, k.0), k.1)
 pub last_fits : (rest before : List A.Act) (a : A.Act) (f : Form) → rest ≡ before ++ a ∷ [] → AreFit (acts_of rest) f → IsFit (act_of a) f
 last_fits rest before a f d h = record { types = h.types; fit = (acts_fit h.types before a (subst (λ r. ActsFit h.types (acts_of r)) d h.fit)).1; formula = h.formula }
 
--- the acts before the last fit what the last one makes of what follows
 pub others_fit : (rest before : List A.Act) (a : A.Act) (f : Form) → rest ≡ before ++ a ∷ [] → AreFit (acts_of rest) f → AreFit (acts_of before) (vp_act (act_of a) f)
 others_fit rest before a f d h = let k = acts_fit h.types before a (subst (λ r. ActsFit h.types (acts_of r)) d h.fit) in record { types = h.types; fit = k.0; formula = act_type h.types (act_of a) f k.1 h.formula }
 
 pub rest_weighs : (rest before : List A.Act) (a : A.Act) → rest ≡ before ++ a ∷ [] → weight_of (acts_of rest) ≡ weight_of (acts_of before) + weight (act_of a)
 rest_weighs rest before a d = ap (λ r. weight_of (acts_of r)) d ∙ last_weighs before a
 
--- What the loop over acts keeps: the acts that are left, and the form so far.
+-- The invariant of the loop over acts: the acts that are left, and the form so far.
 pub record Kept (most : ℕ) (old : List Node) (post : ℕ) (acts : List A.Act) (ns : List Node) (rest : List A.Act) (i : ℕ) : Type 0 where
   pub begins : Begins old ns
   pub ready : IsReady most (AreFit (acts_of rest)) ns i
@@ -109,7 +109,7 @@ last_arm_fits rest before x f d h = let k = arms_fit h.types before x (subst (λ
 pub other_arms_weigh : (rest before : List (C.Cond × Vec A.Act Global)) (x : C.Cond × Vec A.Act Global) → rest ≡ before ++ x ∷ [] → weight_of_arms (arms_of rest) ≡ weight_of_arms (arms_of before) + (8 + weight_of (acts_of x.1.items))
 other_arms_weigh rest before x d = ap (λ r. weight_of_arms (arms_of r)) d ∙ last_arm_weighs before x
 
--- What the loop over arms keeps: the arms that are left, and what is chosen so far.
+-- The invariant of the loop over arms: the arms that are left, and the form so far.
 pub record KeptArms (most : ℕ) (old : List Node) (form start : ℕ) (arms : List (C.Cond × Vec A.Act Global)) (ns : List Node) (rest : List (C.Cond × Vec A.Act Global)) (i : ℕ) : Type 0 where
   pub begins : Begins old ns
   pub ready : IsReady most (ArmsAreFit (arms_of rest)) ns form
@@ -156,7 +156,7 @@ part_fits x rest more p f d h =
     let k = subst (λ r. PartsAreFit x (parts_of r) f) d h in
     (record { types = k.types; fit = k.fit.0.1; formula = k.formula }, record { types = k.types; fit = k.fit.1; formula = k.formula })
 
--- What the loop over parts keeps: the parts that are left, and the sum so far.
+-- The invariant of the loop over parts: the parts that are left, and the sum so far.
 pub record KeptParts (most : ℕ) (x : ℕ) (old : List Node) (form start : ℕ) (parts : List (Rational × T.Term)) (ns : List Node) (rest : List (Rational × T.Term)) (i : ℕ) : Type 0 where
   pub begins : Begins old ns
   pub ready : IsReady most (PartsAreFit x (parts_of rest)) ns form
@@ -188,7 +188,7 @@ parts_stop most x old form start parts ns rest more p i stop k l h d e s u =
 pub parts_last : (most : ℕ) (x : ℕ) (old : List Node) (form start : ℕ) (parts : List (Rational × T.Term)) (ns : List Node) (rest : List (Rational × T.Term)) (i : ℕ) (k l : Form) → (h : KeptParts most x old form start parts ns rest i) → rest ≡ [] → Stands old form (Tree.formula k) → Stands old start (Tree.formula l) → IsMade most (sum_of_parts x (parts_of parts) k l) (Ok i) ns
 parts_last most x old form start parts ns rest i k l h d s u = subst (λ f. IsMade most f (Ok i) ns) (sym (h.whole k l s u ∙ ap (λ r. sum_of_parts x (parts_of r) h.ready.form h.total.form) d)) (h.total.stands, h.total.within)
 
--- ---- What is asked of the parts of an act
+-- ---- Requirements on the parts of an act
 
 pub if_ready : (most : ℕ) (arms : Arms) (e : Acts) (span : Span) (ns : List Node) (i : ℕ) → IsReady most (IsFit (Act.ifs arms e span)) ns i → IsReady most (ArmsAreFit arms) ns i × IsReady most (AreFit e) ns i
 if_ready most arms e span ns i r =

@@ -1,4 +1,4 @@
--- What stands in a graph while a form is made there.
+-- Nodes of a graph while a form is generated in it.
 use Rattle.std.proofs.Common.{◌≡◌, ℕ, ◌^◌, ◌+◌, ◌<◌, ◌≤◌, ◌⊎◌, inl, inr, min, Bool, true, false, List, [], ◌++◌, sym, ap, subst, ◌∙◌, ap₂, refl, arith, append_assoc, append-nil, length, take}
 use Rattle.std.specs.Prelude.{Option, Some, Result, Ok, Err, IfOk, OnOk, OnErr, is_err}
 use Rattle.std.proofs.lemmas.List.{take_at}
@@ -25,7 +25,7 @@ use Rattle.vp_generator.specs.internal.FittingActs.{TermIsFit}
 use Rattle.vp_generator.specs.internal.GraphSteps.{IsMade, IsPlaced, IsReady}
 use Rattle.vp_generator.proofs.FreeTerms.{term_counted}
 
--- ---- Lists that begin others
+-- ---- Prefixes of lists
 
 pub begins_itself : (ns : List Node) → Begins ns ns
 begins_itself ns = record { more = []; whole = sym (append-nil ns) }
@@ -47,7 +47,6 @@ placed_longer most old new i b p = record { form = p.form; stands = stands_longe
 pub ready_longer : (most : ℕ) (Asked : Form → Type 0) (old new : List Node) (i : ℕ) → Begins old new → IsReady most Asked old i → IsReady most Asked new i
 ready_longer most Asked old new i b r = record { form = r.form; stands = stands_longer old new i (Tree.formula r.form) b r.stands; asked = r.asked; within = r.within; plain = r.plain }
 
--- Both a formula of a list and one that is made of it stand in the longer list.
 pub both_within : (most : ℕ) (Asked : Form → Type 0) (old new : List Node) (i j : ℕ) (f : Form) → Begins old new → IsReady most Asked old i → Stands new j (Tree.formula f) → (i < length new) × (j < length new)
 both_within most Asked old new i j f b r s = (tree_within new i (Tree.formula r.form) (stands_longer old new i (Tree.formula r.form) b r.stands).tree, tree_within new j (Tree.formula f) s.tree)
 
@@ -61,16 +60,13 @@ pub joined_stands : {E : Type 0} (r : Result ℕ E) (ns ms : List Node) (n : Nod
 joined_stands (Ok i) ns ms n t h k = h t k.gives
 joined_stands (Err x) ns ms n t h k = tt
 
--- The number 1 stands where its node does.
 pub one_stands : (v : Ext) (ns ms : List Node) (i : ℕ) → value_of v ≡ oneᵛ → ((u : Tree) → assembled (tree_at ns) (Node.Const v) ≡ Some u → Stands ms i u) → Stands ms i (Tree.formula (Form.number oneᵛ))
 one_stands v ns ms i e h = subst (λ x. Stands ms i (Tree.formula (Form.number x))) e (h _ (const_node ns v).gives)
 
--- What a form leaves of 1, behind the list in which the form stands.
 pub rest_stands : {E : Type 0} (r : Result ℕ E) (ns gs ms : List Node) (one least : ℕ) → Begins ns gs → Stands gs one (Tree.formula (Form.number oneᵛ)) → IfOk r (λ i. (u : Tree) → assembled (tree_at gs) (Node.Cut one least) ≡ Some u → Stands ms i u) → IfOk r (λ i. (k : Form) → Stands ns least (Tree.formula k) → Stands ms i (Tree.formula (Form.cut (Form.number oneᵛ) k)))
 rest_stands (Ok i) ns gs ms one least b s h = λ k u. h _ (cut_node gs one least (Form.number oneᵛ) k s (stands_longer ns gs least (Tree.formula k) b u)).gives
 rest_stands (Err x) ns gs ms one least b s h = tt
 
--- Where the code stops the list is cut, and else it has grown.
 pub cut_answer : (most : ℕ) (old grown cut : List Node) (f : Form) (r : Result ℕ VpStop) (len : ℕ) → is_err r ≡ true → len ≡ length old → Begins old grown → cut ≡ take len grown → IsMade most f r grown → IsAnswerIn most old f r cut
 cut_answer most old grown cut f (Ok i) len e l b c m = absurd (cc)
 cut_answer most old grown cut f (Err stop) len e l b c m = (c ∙ ap₂ take l b.whole ∙ take_at old b.more (length old) refl, m)
@@ -79,7 +75,7 @@ pub grown_answer : (most : ℕ) (old grown : List Node) (f : Form) (r : Result �
 grown_answer most old grown f (Ok i) e b m = (b, m)
 grown_answer most old grown f (Err stop) e b m = absurd (cc)
 
--- ---- What is known of the formula at a number
+-- ---- Conclusions on the formula of a node
 
 pub asked_of : (most : ℕ) (Asked : Form → Type 0) (ns : List Node) (i : ℕ) (k : Form) → IsReady most Asked ns i → Stands ns i (Tree.formula k) → Asked k
 asked_of most Asked ns i k r s = subst Asked (same_form ns i r.form k r.stands s) r.asked
@@ -110,7 +106,6 @@ passes most n count e h = omega (arith, e, h)
 pub keeps : (most n count : ℕ) → most < 2 ^ 63 → count ≡ min (2 ^ 63) n → count ≤ most → n ≤ most
 keeps most n count b e h = omega (arith, b, e, h)
 
--- A term that is put in is small enough for fresh numbers, where there are binders.
 pub few_for_fresh : (most n : ℕ) (f : Form) → IsWithin most f → (2 ^ 30 ≤ most → has_binder f ≡ false) → n ≤ most → has_binder f ≡ true → nodes f + n < 2 ^ 31
 few_for_fresh most n f w p h b = go (cases_lt most (2 ^ 30))
   where
@@ -118,11 +113,9 @@ few_for_fresh most n f w p h b = go (cases_lt most (2 ^ 30))
     go (inl l) = let s = w.few in omega (arith, s, h, l)
     go (inr l) = let e : true ≡ false = sym b ∙ p l in absurd (cc)
 
--- A term that passes the limit alone passes it where it is put in.
 pub too_large : (most : ℕ) (x : ℕ) (t : Term) (k : Form) → TermIsFit x t k → most < nodes_in_term t → is_free x k ≡ true → most < nodes (Replaced.subst x t k)
 too_large most x t k f h i = let c = term_counted x t k f i in omega (arith, c, h)
 
--- Where the variable isn't free, the formula is the changed one.
 pub not_changed : (most : ℕ) (ns : List Node) (i x : ℕ) (t : Term) (k : Form) → Stands ns i (Tree.formula k) → IsWithin most k → is_free x k ≡ false → IsMade most (Replaced.subst x t k) (Ok i) ns
 not_changed most ns i x t k s w h = subst (λ f. IsMade most f (Ok i) ns) (sym (kept_subst x t k h)) (s, w)
 

@@ -1,4 +1,4 @@
--- Acts make a form no smaller.
+-- Acts generate no smaller form than the one that follows them.
 use Rattle.std.proofs.Common.{◌≡◌, ℕ, ◌≤◌, ◌+◌, arith, max, Bool, true, false, List, [], ◌∷◌}
 use Rattle.heyvl_num.specs.Rational.{Rational}
 use Rattle.heyvl_places.specs.declared.checks.CheckKind.{CheckKind}
@@ -47,12 +47,10 @@ mutual
   grow_acts types Acts.done k h = omega arith
   grow_acts types (Acts.next a rest) k h = let p = grow_acts types rest k h.1 in let q = grow_act types a (vp rest k) h.0 in omega arith
 
-  -- the arms give no smaller a form than what follows them
   pub grow_arms : (arms : Arms) (k otherwise : Form) → nodes k ≤ nodes otherwise → nodes k ≤ nodes (vp_arms arms k otherwise)
   grow_arms Arms.no_arm k otherwise h = h
   grow_arms (Arms.arm g b more) k otherwise h = let p = grow_arms more k otherwise h in omega arith
 
--- what follows the arms, and what is summed so far, is no larger than the whole
 pub grow_over : (arms : Arms) (k otherwise : Form) → nodes otherwise ≤ nodes (vp_arms arms k otherwise)
 grow_over Arms.no_arm k otherwise = omega arith
 grow_over (Arms.arm g b more) k otherwise = let p = grow_over more k otherwise in omega arith
@@ -98,12 +96,10 @@ mutual
   deepen_acts types Acts.done k h = omega arith
   deepen_acts types (Acts.next a rest) k h = let p = deepen_acts types rest k h.1 in let q = deepen_act types a (vp rest k) h.0 in omega arith
 
-  -- the arms give no smaller a form than what follows them
   pub deepen_arms : (arms : Arms) (k otherwise : Form) → depth k ≤ depth otherwise → depth k ≤ depth (vp_arms arms k otherwise)
   deepen_arms Arms.no_arm k otherwise h = h
   deepen_arms (Arms.arm g b more) k otherwise h = let p = deepen_arms more k otherwise h in omega arith
 
--- what follows the arms, and what is summed so far, is no larger than the whole
 pub deepen_over : (arms : Arms) (k otherwise : Form) → depth otherwise ≤ depth (vp_arms arms k otherwise)
 deepen_over Arms.no_arm k otherwise = omega arith
 deepen_over (Arms.arm g b more) k otherwise = let p = deepen_over more k otherwise in omega arith

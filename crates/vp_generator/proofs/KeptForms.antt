@@ -1,4 +1,4 @@
--- A form without binders stays as it is when it is prenexed.
+-- The prenexed form of a form without binders is the form itself.
 use Rattle.std.proofs.Common.{◌≡◌, ℕ, ◌+◌, false, refl, ap, ap₂, List, [], ◌∷◌, ◌++◌, length}
 use Rattle.heylo_formula.specs.Formula.{Form, Cond}
 use Rattle.heylo_formula.specs.Binders.{has_binder}

@@ -1,5 +1,5 @@
--- The limits of generated forms: acts whose form exceeds a limit, and smaller acts whose form exceeds none; and what the laws ask, at a
--- fair coin.
+-- The limits of generated forms: acts whose form exceeds a limit, smaller acts whose form exceeds
+-- none, and the requirements of the laws at a fair coin.
 use Rattle.std.proofs.Common.{◌≡◌, ◌∙◌, ap, ◌+◌, ◌^◌, ℕ, suc, zero, refl, true, false, List, [], ◌∷◌, arith}
 use Rattle.std.specs.Prelude.{Err, Some}
 use Rattle.std.proofs.Math.Nat.{pow-suc}
@@ -75,7 +75,7 @@ rewards_depth (suc n) = omega (arith, rewards_depth n)
 thousand_rewards_are_too_deep : AreFit (rewards 1000) zero_form × IsStop (vp (rewards 1000) zero_form) Depth
 thousand_rewards_are_too_deep = (record { types = all_flags; fit = rewards_fit 1000; formula = zero_is_formula }, omega (arith, rewards_depth 1000))
 
--- The form of 999 rewards is 1,000 deep, which is not too deep.
+-- The form of 999 rewards has the depth 1,000, which is not too deep.
 fewer_rewards_are_not_too_deep : IsStop (vp (rewards 999) zero_form) Depth → ⊥
 fewer_rewards_are_not_too_deep h = absurd (omega (arith, rewards_depth 999, h))
 
@@ -96,15 +96,15 @@ unfolding choices
 choices_nodes zero = refl
 choices_nodes (suc n) = omega (arith, choices_nodes n, pow-suc 2 (suc n))
 
--- The form of 17 choices has 262,143 nodes, which are too many.
+-- The form of 17 choices has 262,143 nodes, which are more than 200,000.
 seventeen_choices_are_too_large : AreFit (choices 17) zero_form × IsStop (vp (choices 17) zero_form) Nodes
 seventeen_choices_are_too_large = (record { types = all_flags; fit = choices_fit 17; formula = zero_is_formula }, omega (arith, choices_nodes 17))
 
--- The form of 16 choices has 131,071 nodes, which are not too many.
+-- The form of 16 choices has 131,071 nodes, which are at most 200,000.
 fewer_choices_are_not_too_large : IsStop (vp (choices 16) zero_form) Nodes → ⊥
 fewer_choices_are_not_too_large h = absurd (omega (arith, choices_nodes 16, h))
 
--- ---- What a call in a graph asks and answers
+-- ---- Requirements and results of a call in a graph
 
 -- The sum of a variable with itself, of 3 nodes, at the number 1.
 abbrev pair : List Node
@@ -116,7 +116,7 @@ twice = Form.sum (Form.variable 0) (Form.variable 0)
 abbrev one_choice : Acts
 one_choice = Acts.next (Act.pick true Acts.done Acts.done nowhere) Acts.done
 
--- A choice fits the sum at the number 1, as a call in the graph asks.
+-- A choice may precede the sum at the number 1, as a call in the graph requires.
 choice_follows : Follows one_choice pair 1
 unfolding trees_after
 choice_follows = record { form = twice; stands = record { tree = refl }; fit = record { types = λ x. Ty.UInt; fit = ((tt, tt), tt); formula = refl } }
@@ -137,25 +137,25 @@ rewards_are_too_deep_in_a_graph = omega (arith, rewards_depth 1000)
 choice_is_not_too_deep : IsStopAt 6 (vp one_choice twice) Depth → ⊥
 choice_is_not_too_deep h = absurd (omega arith)
 
--- ---- The limits of a goal's found form
+-- ---- The limits of a goal's computed form
 
--- A goal whose found form has the depth 1,001 is too deep.
+-- A goal whose computed form has the depth 1,001 is too deep.
 goal_is_too_deep : (g : Goal) → IsMadeWithin (vp (rewards 1000) zero_form) g made.Depth
 goal_is_too_deep g = omega (arith, rewards_depth 1000)
 
--- A goal that finds a sum of two variables is not.
+-- A goal whose computed form is a sum of two variables is not.
 goal_is_not_too_deep : (g : Goal) → IsMadeWithin twice g made.Depth → ⊥
 goal_is_not_too_deep g h = absurd (omega arith)
 
--- A goal whose found form has 262,143 nodes is too large.
+-- A goal whose computed form has 262,143 nodes exceeds the limit.
 goal_is_too_large : (g : Goal) → IsMadeWithin (vp (choices 17) zero_form) g made.Nodes
 goal_is_too_large g = omega (arith, choices_nodes 17)
 
--- A goal that finds a sum of two variables is not.
+-- A goal whose computed form is a sum of two variables is not.
 goal_is_not_too_large : (g : Goal) → IsMadeWithin twice g made.Nodes → ⊥
 goal_is_not_too_large g h = absurd (omega arith)
 
--- ---- What the laws of generated forms ask: a fair coin, and then any Boolean
+-- ---- The requirements of the laws of generated forms: a fair coin, and then any Boolean
 
 abbrev guess : Acts
 guess = Acts.next (Act.draw 0 ((halfʳ, Term.truth (Cond.constant true)) ∷ (halfʳ, Term.truth (Cond.constant false)) ∷ []) nowhere) (Acts.next (Act.any 1 true Ty.Bool nowhere) Acts.done)
@@ -167,15 +167,17 @@ half_from_zero : zeroʳ ≤ʳ halfʳ
 unfolding halfʳ zeroʳ ratio leqʳ
 half_from_zero = record { holds = refl }
 
--- The acts are well typed and the post is a formula, as `GeneratedFormMeansActs` and `GeneratedFormIsFormula` ask.
+-- The acts are well typed and the post is a formula, as `GeneratedFormMeansActs` and
+-- `GeneratedFormIsFormula` require.
 guess_fits : ActsFit all_flags guess × IsFormula all_flags same_values
 guess_fits = ((((half_from_zero, (refl, refl)), ((half_from_zero, (refl, refl)), tt)), (refl, tt)), refl)
 
--- They read and bind the first two variables alone, as `GeneratedFormIsOver` and `GeneratedFormIsNamed` ask.
+-- They read and bind only the first two variables, as `GeneratedFormIsOver` and
+-- `GeneratedFormIsNamed` require.
 guess_is_over : ActsAreOver 2 guess × (IsOver 2 same_values × (AnysAreBelow 2 guess × AreNamed 2 (binders same_values)))
 guess_is_over = ((((λ y e. absurd (cc)), ((λ y e. absurd (cc)), tt)), (tt, tt)), ((λ y e. grind arith), ((tt, (omega arith, tt)), tt)))
 
--- They choose upward, as `GeneratedFormIsDirected` asks.
+-- They choose upward, as `GeneratedFormIsDirected` requires.
 guess_is_directed : Each (ChoosesToward true) (in_order guess) × (NothingBindsBehind true (has_binder same_values) (in_order guess) × (is_directed true same_values ≡ true))
 guess_is_directed = ((tt, (refl, tt)), (((λ e. absurd (cc)), ((λ e. absurd (cc)), tt)), refl))
 
@@ -189,7 +191,7 @@ one_held = (refl, refl)
 halves_weigh_one : (t u : Term) → total_weight ((halfʳ, t) ∷ (halfʳ, u) ∷ []) ≡ oneʳ
 halves_weigh_one t u = total_weight-cons halfʳ t _ ∙ (ap (λ w. halfʳ +ʳ w) (total_weight-cons halfʳ u [] ∙ (ap (λ w. halfʳ +ʳ w) (total_weight-empty Term) ∙ +ʳ-zero halfʳ)) ∙ halves)
 
--- A procedure with this body satisfies the static rules, as `FormOfProcedureIsDirected` asks.
+-- A procedure with this body satisfies the static rules, as `FormOfProcedureIsDirected` requires.
 guessing_meets_the_rules : MeetsRules (guessing ∷ []) guessing × ActsFit (types_of guessing) guess
 guessing_meets_the_rules = (
   record {
@@ -214,7 +216,8 @@ guessing_meets_the_rules = (
   (((half_from_zero, (refl, refl)), ((half_from_zero, (refl, refl)), tt)), (refl, tt)),
 )
 
--- ---- What the laws of prenexed forms ask: the largest value of a Boolean, over one variable
+-- ---- The requirements of the laws of prenexed forms: the largest value of a Boolean, over one
+-- variable
 
 abbrev largest : Form
 largest = Form.bind true 0 0 Ty.Bool (Form.iverson (Cond.flag 0))
@@ -222,17 +225,19 @@ largest = Form.bind true 0 0 Ty.Bool (Form.iverson (Cond.flag 0))
 abbrev all_true : Env
 all_true x = Truth true
 
--- The variable behind the own one has the chosen value and its type, as `ChoicesAreValues`, `ValuesAreChoices` and
--- `PrenexedFormIsFormula` ask.
+-- The second variable has the chosen value and its type, as `ChoicesAreValues`, `ValuesAreChoices`
+-- and `PrenexedFormIsFormula` require.
 largest_is_chosen : IsFrom 1 (chosen largest (Choices.choose (Truth true) Choices.stop Choices.stop)) all_true × (TypedFrom 1 (binders largest) all_true × (TypesFrom 1 (binders largest) all_flags × IsFormula all_flags largest))
 largest_is_chosen = ((refl, tt), ((refl, tt), ((refl, tt), refl)))
 
--- 0 and the largest value are formulas over one variable, as `PrenexedGoalsSpeakOfChoices` and `PrenexedGoalsAreGoals` ask.
+-- 0 and the largest value are formulas over one variable, as `PrenexedGoalsSpeakOfChoices` and
+-- `PrenexedGoalsAreGoals` require.
 zero_and_largest_make_a_goal : IsOver 1 zero_form × (IsOver 1 largest × (IsFormula (types_in (Ty.Bool ∷ [])) zero_form × (IsFormula (types_in (Ty.Bool ∷ [])) largest × (has_binder zero_form ≡ false))))
 unfolding zeroᵛ zeroʳ ratio leqʳ
 zero_and_largest_make_a_goal = ((λ y e. absurd (cc)), ((λ y e. grind arith), (refl, (refl, refl))))
 
--- In a state of two true values 0 is not at least the largest value, as `PrenexedGoalsFailByChoices` asks.
+-- In a state of two true values 0 is not at least the largest value, as
+-- `PrenexedGoalsFailByChoices` requires.
 zero_is_below_largest : IsTyped (Ty.Bool ∷ Ty.Bool ∷ []) (Truth true ∷ Truth true ∷ []) × (HoldsIn (prenexed_goal true (Ty.Bool ∷ []) ((1 ∷ []) ∷ (2 ∷ []) ∷ []) zero_form largest) (environment (Truth true ∷ Truth true ∷ [])) → ⊥)
 unfolding zeroᵛ oneᵛ zeroʳ oneʳ ratio leqᵛ leqʳ
 zero_is_below_largest = ((refl, (refl, refl)), λ h. let e = h.holds in cc)

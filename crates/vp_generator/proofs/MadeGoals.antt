@@ -1,4 +1,4 @@
--- The goal that the code builds is the prenexed goal.
+-- The goal that the program builds is the prenexed goal.
 use Rattle.std.proofs.Common.{◌≡◌, ℕ, sym, ap, ◌∙◌, Bool, List, ◌++◌}
 use Rattle.std.proofs.Math.ListN.{length}
 use Rattle.heylo_formula.specs.BinderNames.{binders}

@@ -1,4 +1,5 @@
--- The forms of three parts, whose second and third part are numbered after the binders of the first; and bodies of binders.
+-- The forms of three parts, whose second and third part are numbered after the binders of the
+-- first; and bodies of binders.
 use Rattle.std.proofs.Common.{◌≡◌, ℕ, ◌+◌, ap, ap₂, ◌∙◌, arith, List, [], ◌∷◌, ◌++◌, length, Box}
 use Rattle.std.proofs.lemmas.List.{length-append}
 use Rattle.std.specs.declared.alloc.Global.{Global}
@@ -22,7 +23,6 @@ select_numbered s z x xs ys g a b t l r e d h i j = let n = after x xs ys (binde
 pub ite_numbered : (s z : List (ℕ × ℕ)) (x : ℕ) (xs ys : List Binder) (g h k : Cond) (t l r : Box C.Cond Global) → z ≡ s → ys ≡ xs ++ binders_in g → cond_of t.value ≡ unbound_in (number_in s) (x + length xs) g → cond_of l.value ≡ unbound_in (number_in z) (x + length ys) h → cond_of r.value ≡ unbound_in (number_in z) (x + length ys + length (binders_in h)) k → cond_of (C.Ite t l r) ≡ unbound_in (number_in s) (x + length xs) (Cond.ite g h k)
 ite_numbered s z x xs ys g h k t l r e d o i j = let n = after x xs ys (binders_in g) d in ite_cond t l r ∙ ap₂ (λ p (q : Cond × Cond). Cond.ite p q.0 q.1) o (ap₂ (λ p q. (p, q)) (i ∙ ap₂ (λ w m. unbound_in (number_in w) m h) e n) (j ∙ ap₂ (λ w m. unbound_in (number_in w) (m + length (binders_in h)) k) e n))
 
--- A body is numbered in the scope of its binder, after the binders before it and that one.
 pub body_numbered : (s z : List (ℕ × ℕ)) (v x k : ℕ) (xs ys : List Binder) (b : Binder) (a f : Form) → k ≡ x + length xs → z ≡ s ++ (v, k) ∷ [] → ys ≡ xs ++ b ∷ [] → f ≡ unbound (number_in z) (x + length ys) a → f ≡ unbound (renumbered v (x + length xs) (number_in s)) (suc (x + length xs)) a
 body_numbered s z v x k xs ys b a f n e d h =
     let l : length ys ≡ suc (length xs) = ap length d ∙ length-append xs (b ∷ []) ∙ omega arith in

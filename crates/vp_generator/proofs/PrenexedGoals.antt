@@ -1,4 +1,4 @@
--- A goal over choice trees holds exactly where the goal without binders does, which is a goal.
+-- An inequality over choices holds exactly if the goal without binders does; and this goal is one.
 use Rattle.std.proofs.Common.{◌≡◌, ◌↔◌, ℕ, ◌<◌, ◌≤◌, ◌+◌, refl, sym, ap, ◌∙◌, subst, arith, Bool, true, false, cond, ◌==◌, ◌||◌, List, [], ◌∷◌, ◌++◌}
 use Rattle.std.proofs.Math.ListN.{length, get_or-append}
 use Rattle.std.proofs.lemmas.List.{length-append}
@@ -36,7 +36,6 @@ from_zero : (ws : List Val) → IsFrom 0 ws (environment ws)
 from_zero [] = tt
 from_zero (w ∷ ws) = (refl, shifted 0 ws w ws (from_zero ws))
 
--- the values behind a list stand at the numbers from its length on
 from_end : (s ws : List Val) → IsFrom (length s) ws (environment (s ++ ws))
 from_end [] ws = from_zero ws
 from_end (u ∷ s) ws = shifted (length s) ws u (s ++ ws) (from_end s ws)
@@ -55,7 +54,7 @@ end_types [] bs r h = zero_types bs r h
 end_types (t ∷ tys) bs [] h = absurd h
 end_types (t ∷ tys) bs (u ∷ r) h = shifted_types (length tys) bs u r (end_types tys bs r h.1)
 
--- a typed list of values is one for the first types and one for the others
+-- A list of values with the types `tys ++ us` splits into one of each.
 record Front (tys us : List Ty) (r : List Val) : Type 0 where
   pub front : List Val
   pub back : List Val
@@ -77,9 +76,8 @@ as_long [] s h = ap length h
 as_long (t ∷ tys) [] h = absurd h
 as_long (t ∷ tys) (u ∷ s) h = ap suc (as_long tys s h.1)
 
--- ---- Both ways
+-- ---- Both directions
 
--- a form over the first variables has its value in the first list alone
 own_value : (n : ℕ) (f : Form) (s ws : List Val) (c : Choices) → length s ≡ n → IsOver n f → value f (environment (s ++ ws)) c ≡ value f (environment s) c
 own_value n f s ws c e o = same_on f (environment (s ++ ws)) (environment s) c (λ y k. get_or-append s ws (Truth false) y (subst (λ m. y < m) (sym e) (o y k)))
 
@@ -104,7 +102,7 @@ module _ (up : Bool) (tys : List Ty) (names : List (List ℕ)) (stated found : F
 pub goals_of_choices : (up : Bool) (tys : List Ty) (names : List (List ℕ)) (stated found : Form) → IsOver (length tys) stated → IsOver (length tys) found → HoldsByChoices up tys stated found ↔ Holds (prenexed_goal up tys names stated found)
 goals_of_choices up tys names stated found over over_found = (to_goal up tys names stated found over over_found, to_choices up tys names stated found over over_found)
 
--- ---- The goal is one
+-- ---- The goal is a goal
 
 length_types : (bs : List Binder) → length (new_types bs) ≡ length bs
 length_types [] = refl

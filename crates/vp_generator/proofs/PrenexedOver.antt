@@ -1,4 +1,5 @@
--- The variables of the prenexed form are numbers that the form's variables have, and those of its binders.
+-- The variables of the prenexed form are the numbers of the form's variables and those of its
+-- binders.
 use Rattle.std.proofs.Common.{◌≡◌, ℕ, ◌<◌, ◌≤◌, ◌+◌, refl, sym, ap, ◌∙◌, subst, arith, Bool, true, false, cond, ◌==◌, ◌||◌, List, ◌++◌}
 use Rattle.std.proofs.Math.ListN.{length}
 use Rattle.std.proofs.lemmas.List.{length-append}
@@ -16,12 +17,10 @@ right_free : (a b : Bool) → b ≡ true → (a || b) ≡ true
 right_free true b h = refl
 right_free false b h = h
 
--- what holds of each part's variables holds of those of both
 pub two : (a b : Bool) (x k : ℕ) → (a ≡ true → x < k) → (b ≡ true → x < k) → (a || b) ≡ true → x < k
 two true b x k f g h = f refl
 two false b x k f g h = g h
 
--- the numbers of two lists of binders, one after the other
 first_below : (xs ys : List Binder) (n k : ℕ) → n + length (xs ++ ys) ≤ k → n + length xs ≤ k
 first_below xs ys n k h = let e = length-append xs ys in omega (arith, e, h)
 

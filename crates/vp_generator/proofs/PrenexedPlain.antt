@@ -1,4 +1,4 @@
--- The prenexed form has no binder, and each binder's numbers are its own: those of the parts follow each other.
+-- The prenexed form has no binder, and the numbers of the parts' binders follow each other.
 use Rattle.std.proofs.Common.{◌≡◌, ℕ, ◌+◌, refl, false}
 use Rattle.std.proofs.Math.ListN.{length}
 use Prim.Native.Nat.{suc}

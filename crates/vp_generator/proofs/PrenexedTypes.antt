@@ -21,7 +21,7 @@ split : (us vs : List Binder) (n : ℕ) (types : Types) → TypesFrom n (us ++ v
 split [] vs n types h = (tt, subst (λ k. TypesFrom k vs types) (omega arith) h)
 split (u ∷ us) vs n types h = let k = split us vs (suc n) types h.1 in ((h.0, k.0), subst (λ m. TypesFrom m vs types) (omega arith) k.1)
 
--- without binders, types are those of the renumbered variables
+-- The types of the prenexed form are those of the renumbered variables.
 mutual
   moved_type : (f : Form) (m : Numbering) (n : ℕ) (types : Types) → has_binder f ≡ false → type_of types (unbound m n f) ≡ type_of (λ y. types (m y)) f
   moved_type (Form.number v) m n types h = refl
@@ -75,7 +75,6 @@ renumbered_types x n ty m types e = fun_ext (λ y. go y (x == y))
     go y true = sym e
     go y false = refl
 
--- a formula's prenexed form is a formula
 pub unbound_formula : (f : Form) (m : Numbering) (n : ℕ) (types : Types) → TypesFrom n (binders f) types → IsFormula (λ y. types (m y)) f → IsFormula types (unbound m n f)
 unbound_formula (Form.number v) m n types t h = h
 unbound_formula (Form.variable x) m n types t h = h

@@ -1,4 +1,5 @@
--- The values of a prenexed form over all values of its new variables are those of the form over all choice trees.
+-- The values of a prenexed form over all values of its new variables are those of the form over all
+-- choices.
 use Rattle.std.proofs.Common.{◌≡◌, ℕ, ◌+◌, refl, sym, ap, ap₂, ◌∙◌, subst, arith, Bool, true, false, not, cond, ◌==◌, ◌||◌, ◌&&◌, List, [], ◌∷◌, ◌++◌}
 use Rattle.std.proofs.Math.ListN.{length}
 use Rattle.std.proofs.lemmas.List.{length-append}
@@ -34,7 +35,6 @@ split_types (u ∷ us) vs n r h = let k = split_types us vs (suc n) r h.1 in ((h
 append_lengths : (us vs : List Val) (xs ys : List Binder) → length us ≡ length xs → length vs ≡ length ys → length (us ++ vs) ≡ length (xs ++ ys)
 append_lengths us vs xs ys e f = length-append us vs ∙ ap₂ (λ (m : ℕ) n. m + n) e f ∙ sym (length-append xs ys)
 
--- what a renumbered variable has
 pub renumbered_env : (x n : ℕ) (m : Numbering) (r : Env) → (λ y. r (renumbered x n m y)) ≡ put x (r n) (λ y. r (m y))
 renumbered_env x n m r = fun_ext (λ y. go y (x == y))
   where
@@ -42,7 +42,7 @@ renumbered_env x n m r = fun_ext (λ y. go y (x == y))
     go y true = refl
     go y false = refl
 
--- each occurrence of a binder has one value
+-- Each occurrence of a binder has one value.
 mutual
   pub as_many : (f : Form) (c : Choices) → length (chosen f c) ≡ length (binders f)
   as_many (Form.number v) c = refl
@@ -78,7 +78,7 @@ mutual
 two : (us vs : List Val) (xs : List Binder) (n : ℕ) (r : Env) → IsFrom n (us ++ vs) r → length us ≡ length xs → IsFrom n us r × IsFrom (n + length xs) vs r
 two us vs xs n r h e = let k = split us vs n r h in (k.0, subst (λ m. IsFrom (n + m) vs r) e k.1)
 
--- the value for a choice tree is that for the values that the tree gives
+-- The value for choices is the one for the values that they give.
 mutual
   pub given_value : (f : Form) (m : Numbering) (n : ℕ) (r : Env) (c : Choices) → IsFrom n (chosen f c) r → value (unbound m n f) r Choices.stop ≡ value f (λ y. r (m y)) c
   given_value (Form.number v) m n r c h = refl
@@ -123,7 +123,6 @@ both op f g v w h k = record { choices = Choices.choose (Truth false) h.choices 
 one : {A B : Type 0} (op : A → B) (f : Choices → A) (v : A) → Found A f v → Found B (λ c. op (f c)) (op v)
 one op f v h = record { choices = h.choices; same = ap op h.same }
 
--- the choices of the part that is taken
 branch : {A : Type 0} (t : Choices → Bool) (f g : Choices → A) (b : Bool) (v w : A) → Found Bool t b → Found A f v → Found A g w → Found A (λ c. cond (t (left c)) (f (right c)) (g (right c))) (cond b v w)
 branch t f g true v w h k l = record { choices = Choices.choose (Truth false) h.choices k.choices; same = k.same ∙ ap (λ b. cond b (f k.choices) (g k.choices)) h.same }
 branch t f g false v w h k l = record { choices = Choices.choose (Truth false) h.choices l.choices; same = l.same ∙ ap (λ b. cond b (f l.choices) (g l.choices)) h.same }
@@ -131,7 +130,7 @@ branch t f g false v w h k l = record { choices = Choices.choose (Truth false) h
 under : (up : Bool) (x n name : ℕ) (ty : Ty) (a : Form) (m : Numbering) (r : Env) (v : Value) → has ty (r n) ≡ true → Found Value (λ c. value a (λ y. r (renumbered x n m y)) c) v → Found Value (λ c. value (Form.bind up x name ty a) (λ y. r (m y)) c) v
 under up x n name ty a m r v e h = record { choices = Choices.choose (r n) h.choices Choices.stop; same = h.same ∙ ap (λ s. value a s h.choices) (renumbered_env x n m r ∙ ap (λ w. put x w (λ y. r (m y))) (sym (fit_same ty (r n) e))) }
 
--- values of the new variables, each of its type, are given by a choice tree
+-- Values of the new variables, each of its type, are given by some choices.
 mutual
   pub found_value : (f : Form) (m : Numbering) (n : ℕ) (r : Env) → TypedFrom n (binders f) r → Found Value (λ c. value f (λ y. r (m y)) c) (value (unbound m n f) r Choices.stop)
   found_value (Form.number v) m n r h = record { choices = Choices.stop; same = refl }
@@ -170,7 +169,7 @@ mutual
       let l = split_types (binders_in h) (binders_in j) (n + length (binders_in g)) r k.1 in
       branch _ _ _ _ _ _ (found_truth g m n r k.0) (found_truth h m (n + length (binders_in g)) r l.0) (found_truth j m (n + length (binders_in g) + length (binders_in h)) r l.1)
 
--- ---- The values that a choice tree gives are of the types of the binders
+-- ---- The values that choices give have the types of the binders
 
 append_typed : (xs ys : List Binder) (us vs : List Val) → IsTyped (new_types xs) us → IsTyped (new_types ys) vs → IsTyped (new_types (xs ++ ys)) (us ++ vs)
 append_typed [] ys us vs h k = subst (λ l. IsTyped (new_types ys) (l ++ vs)) (sym h) k

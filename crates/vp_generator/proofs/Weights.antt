@@ -1,4 +1,4 @@
--- What falls along the code that builds a form.
+-- Measures that decrease in the recursion of the functions that generate a form.
 use Rattle.std.proofs.Common.{◌≡◌, ℕ, ◌+◌, arith, List, [], ◌∷◌, ◌++◌}
 use Rattle.std.specs.Prelude.{Vec}
 use Rattle.std.specs.declared.alloc.Global.{Global}

@@ -1,6 +1,6 @@
--- Which acts keep the best value of what follows: where each binder is of the direction, and nothing binds behind a check
--- that doesn't keep the best value, the generated form has binders of the direction alone, under operators that keep it.
--- Which operators do is listed by is_directed.
+-- Acts whose generated form keeps the best value of what follows: each binder has the procedure's
+-- direction, upward in a coproc, and no binder follows a check that does not keep the best value.
+-- `is_directed` lists the operators that keep it. This project's own.
 use Rattle.std.specs.Prelude.{◌≡◌, Bool, true, List}
 use Rattle.heylo_formula.specs.Formula.{Form}
 use Rattle.heylo_formula.specs.Binders.{has_binder}
@@ -12,7 +12,7 @@ use Rattle.heyvl_acts.specs.Rules.{Each, NothingBindsBehind, MeetsRules}
 use Rattle.heyvl_acts.specs.WellTypedActs.{ActsFit}
 use Rattle.vp_generator.specs.GeneratedForms.{vp}
 
--- An arbitrary value is of the direction.
+-- If the act gives a variable any value, it does so in the direction `co`, upward if true.
 abbrev pub ChoosesToward : Bool → Act → Type 0
 ChoosesToward co (Act.any x up ty span) = up ≡ co
 ChoosesToward co (Act.set x t span) = Unit {0}
@@ -26,10 +26,15 @@ ChoosesToward co (Act.validate d span) = Unit {0}
 ChoosesToward co (Act.loop h b) = Unit {0}
 ChoosesToward co (Act.call xs p es span) = Unit {0}
 
--- The form of such acts over a post that is directed is directed.
+-- The form of directed acts over a directed post is directed.
 abbrev pub GeneratedFormIsDirected : Type 0
-GeneratedFormIsDirected = (co : Bool) (types : Types) (acts : Acts) (post : Form) → ActsFit types acts → Each (ChoosesToward co) (in_order acts) → NothingBindsBehind co (has_binder post) (in_order acts) → is_directed co post ≡ true → is_directed co (vp acts post) ≡ true
+GeneratedFormIsDirected = (co : Bool) (types : Types) (acts : Acts) (post : Form)
+    → ActsFit types acts → Each (ChoosesToward co) (in_order acts)
+    → NothingBindsBehind co (has_binder post) (in_order acts) → is_directed co post ≡ true
+    → is_directed co (vp acts post) ≡ true
 
--- So is that of a typed procedure whose body holds no loop and no call, over its post.
+-- The form of a procedure's body without loops and calls, over its post, has the procedure's
+-- direction, if the procedure satisfies the static rules.
 abbrev pub FormOfProcedureIsDirected : Type 0
-FormOfProcedureIsDirected = (ps : List TypedProcedure) (p : TypedProcedure) → MeetsRules ps p → ActsFit (types_of p) (acts_in p.body) → is_directed p.co (vp (acts_in p.body) p.post) ≡ true
+FormOfProcedureIsDirected = (ps : List TypedProcedure) (p : TypedProcedure) → MeetsRules ps p
+    → ActsFit (types_of p) (acts_in p.body) → is_directed p.co (vp (acts_in p.body) p.post) ≡ true

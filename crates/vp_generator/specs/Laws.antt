@@ -1,4 +1,4 @@
--- The laws of the generated form and of the prenexed one.
+-- The laws of the generated form. This project's own.
 use Rattle.std.specs.Prelude.{◌≡◌}
 use Rattle.heylo_formula.specs.Formula.{Form}
 use Rattle.heylo_formula.specs.State.{Env}
@@ -10,10 +10,13 @@ use Rattle.heyvl_acts.specs.Forward.{forward}
 use Rattle.vp_generator.specs.GeneratedForms.{vp}
 use Rattle.heyvl_acts.specs.WellTypedActs.{ActsFit}
 
--- The generated form has the forward meaning of the acts as its value, for all choices: the same tree serves both.
+-- The value of the generated form is the forward meaning of the acts, for all choices: the same
+-- tree of choices serves both.
 abbrev pub GeneratedFormMeansActs : Type 0
-GeneratedFormMeansActs = (types : Types) (acts : Acts) (post : Form) (s : Env) (c : Choices) → ActsFit types acts → value (vp acts post) s c ≡ forward acts (value post) s c
+GeneratedFormMeansActs = (types : Types) (acts : Acts) (post : Form) (s : Env) (c : Choices)
+    → ActsFit types acts → value (vp acts post) s c ≡ forward acts (value post) s c
 
--- The generated form is a formula where the post is one.
+-- The generated form is a formula if the post is one.
 abbrev pub GeneratedFormIsFormula : Type 0
-GeneratedFormIsFormula = (types : Types) (acts : Acts) (post : Form) → ActsFit types acts → IsFormula types post → IsFormula types (vp acts post)
+GeneratedFormIsFormula = (types : Types) (acts : Acts) (post : Form) → ActsFit types acts
+    → IsFormula types post → IsFormula types (vp acts post)

@@ -1,4 +1,4 @@
-//! The form of a draw in a graph: the sum of its parts, from the left.
+//! The form of a draw in a graph.
 
 ghost use Rattle.std.specs.Prelude.{◌≡◌, ◌<◌, ◌^◌};
 ghost use Rattle.heylo_formula.specs.Formula.{Form as plain};
@@ -16,7 +16,8 @@ use heylo_formula::Term;
 use heylo_graph::{Graph, NodeId};
 use heyvl_num::Frac;
 
-/// The form of a draw of a variable from its parts.
+/// Returns the node of a draw of `var` before `form`: the sum of the forms of its parts, from the
+/// left.
 pub fn drawn(
     graph: &mut Graph,
     var: u32,
@@ -27,7 +28,8 @@ pub fn drawn(
     requires most { most < 2 ^ 63 }
     requires ready { IsReady most (DrawIsFit var (parts_of parts.now)) graph.old form }
     ensures begins { Begins graph.old graph.new }
-    ensures made { (k : plain) → Stands graph.old form (Tree.formula k) → IsMade most (draw_form var (parts_of parts.now) k) result graph.new }
+    ensures made { (k : plain) → Stands graph.old form (Tree.formula k)
+        → IsMade most (draw_form var (parts_of parts.now) k) result graph.new }
 {
     match parts.split_first() {
         Some((first, others)) => match part(graph, var, first, form, most) {
@@ -38,7 +40,7 @@ pub fn drawn(
     }
 }
 
-/// The form that is summed so far, and then the parts.
+/// Returns the node of `start` plus the forms of the parts.
 fn sum_from(
     graph: &mut Graph,
     var: u32,
@@ -51,7 +53,9 @@ fn sum_from(
     requires ready { IsReady most (PartsAreFit var (parts_of parts.now)) graph.old form }
     requires start { IsPlaced most graph.old start }
     ensures begins { Begins graph.old graph.new }
-    ensures made { (k l : plain) → Stands graph.old form (Tree.formula k) → Stands graph.old start (Tree.formula l) → IsMade most (sum_of_parts var (parts_of parts.now) k l) result graph.new }
+    ensures made { (k l : plain) → Stands graph.old form (Tree.formula k)
+        → Stands graph.old start (Tree.formula l)
+        → IsMade most (sum_of_parts var (parts_of parts.now) k l) result graph.new }
 {
     let mut total = start;
     let mut rest = parts;
@@ -65,7 +69,7 @@ fn sum_from(
     Ok(total)
 }
 
-/// One more part behind what is summed so far.
+/// Returns the node of `total` plus the form of one part.
 fn with_part(
     graph: &mut Graph,
     var: u32,
@@ -78,7 +82,10 @@ fn with_part(
     requires ready { IsReady most (TermIsFit var (term_of one.now.1)) graph.old form }
     requires total { IsFormula graph.old total }
     ensures begins { Begins graph.old graph.new }
-    ensures made { (k l : plain) → Stands graph.old form (Tree.formula k) → Stands graph.old total (Tree.formula l) → IsMade most (plain.sum l (part_form var (one.now.0, term_of one.now.1) k)) result graph.new }
+    ensures made { (k l : plain) → Stands graph.old form (Tree.formula k)
+        → Stands graph.old total (Tree.formula l)
+        → IsMade most (plain.sum l (part_form var (one.now.0, term_of one.now.1) k)) result
+        graph.new }
 {
     match part(graph, var, one, form, most) {
         Ok(next) => added(graph, total, next, most),
@@ -86,7 +93,7 @@ fn with_part(
     }
 }
 
-/// The form of one part of a draw.
+/// Returns the node of the form of one part.
 fn part(
     graph: &mut Graph,
     var: u32,
@@ -97,7 +104,8 @@ fn part(
     requires most { most < 2 ^ 63 }
     requires ready { IsReady most (TermIsFit var (term_of one.now.1)) graph.old form }
     ensures begins { Begins graph.old graph.new }
-    ensures made { (k : plain) → Stands graph.old form (Tree.formula k) → IsMade most (part_form var (one.now.0, term_of one.now.1) k) result graph.new }
+    ensures made { (k : plain) → Stands graph.old form (Tree.formula k)
+        → IsMade most (part_form var (one.now.0, term_of one.now.1) k) result graph.new }
 {
     match put(graph, form, var, &one.1, most) {
         Ok(next) => scaled(graph, one.0, next, most),

@@ -1,4 +1,5 @@
-//! The form that is generated from acts, from the last act to the first, in a graph in which equal parts stand once.
+//! The pre-expectation of acts as a form, generated from the last act to the first in a graph with
+//! sharing.
 
 ghost use Rattle.std.specs.Prelude.{IfOk, ◌≡◌, ◌<◌, ◌≤◌, ◌^◌};
 ghost use Rattle.heylo_formula.specs.Formula.{Form as plain};
@@ -9,7 +10,8 @@ ghost use Rattle.heyvl_acts.specs.PlainActs.{act_of, acts_of, arms_of};
 ghost use Rattle.vp_generator.specs.Answers.{IsAnswer};
 ghost use Rattle.vp_generator.specs.Fit.{AreFit};
 ghost use Rattle.vp_generator.specs.GeneratedForms.{pick_form, vp, vp_act, vp_arms};
-ghost use Rattle.vp_generator.specs.GraphAnswers.{Follows, HasNoAny, HaveNoAny, HaveNoAnyIn, IsAnswerIn, MakeNoBinder};
+ghost use Rattle.vp_generator.specs.GraphAnswers.{Follows, HasNoAny, HaveNoAny, HaveNoAnyIn};
+ghost use Rattle.vp_generator.specs.GraphAnswers.{IsAnswerIn, MakeNoBinder};
 ghost use Rattle.vp_generator.specs.internal.FittingActs.{IsFit, ArmsAreFit};
 ghost use Rattle.vp_generator.specs.internal.GraphSteps.{IsMade, IsPlaced, IsReady};
 
@@ -23,13 +25,21 @@ use heylo_graph::{Graph, NodeId};
 use heyvl_acts::Act;
 use std::alloc::{AllocError, Global};
 
-/// How many acts are taken before it is looked at how many nodes the graph holds.
+/// The number of acts that are processed before the size of the graph is compared with that of the
+/// form.
 const ACTS_AT_ONCE: usize = 4;
 
-/// A graph is crowded that holds more than so many times the nodes of the form's tree: those of forms that acts have changed since.
+/// A graph is crowded if it has more than this many times the nodes of the form's tree; the other
+/// nodes belong to forms that later acts have changed.
 const CROWDED: u64 = 4;
 
-/// The form of acts, over the form of what follows them; of at most 200,000 nodes.
+/// Returns the form of the acts before `post`.
+///
+/// # Errors
+///
+/// - `Nodes`: the form has more than 200,000 nodes.
+/// - `Depth`: the form is more than 1,000 deep.
+/// - `Memory`: memory ran out.
 pub fn vp(alloc: Global, acts: &[Act], post: Form) -> Result<Form, VpStop>
     requires { AreFit (acts_of acts.now) (form_of post) }
     ensures { IsAnswer (vp (acts_of acts.now) (form_of post)) result }
@@ -52,10 +62,11 @@ pub fn vp(alloc: Global, acts: &[Act], post: Form) -> Result<Form, VpStop>
     }
 }
 
-/// The form, in its graph, or in one of its own where its graph is crowded. Want of memory is the one error.
+/// Returns the form in its graph, or in a new graph if its graph is crowded.
 fn uncrowded(alloc: Global, graph: Graph, form: NodeId) -> Result<(Graph, NodeId), AllocError>
     requires { IsFormula graph form }
-    ensures { IfOk result (λ r. (k : plain) → Stands graph form (Tree.formula k) → Stands r.0 r.1 (Tree.formula k)) }
+    ensures { IfOk result (λ r. (k : plain) → Stands graph form (Tree.formula k)
+        → Stands r.0 r.1 (Tree.formula k)) }
 {
     if graph.len() as u64 / CROWDED <= graph.nodes(form) {
         return Ok((graph, form));
@@ -66,13 +77,20 @@ fn uncrowded(alloc: Global, graph: Graph, form: NodeId) -> Result<(Graph, NodeId
     Ok((own, id))
 }
 
-/// The form of acts, over the form of what follows them, in its graph; of at most so many nodes, and at most 1,000 deep. Where
-/// it stops, the list is as it was. Where there may be 2^30 nodes, no binder may come of the acts, nor stand in what follows.
+/// Returns the node of the form of the acts before the node `post`. If `most` is at least 2^30,
+/// neither the acts nor `post` may make a binder. On an error the graph is unchanged.
+///
+/// # Errors
+///
+/// - `Nodes`: the form has more than `most` nodes.
+/// - `Depth`: the form is more than 1,000 deep.
+/// - `Memory`: memory ran out.
 pub fn vp_in(graph: &mut Graph, acts: &[Act], post: NodeId, most: u64) -> Result<NodeId, VpStop>
     requires most { most < 2 ^ 63 }
     requires post { Follows (acts_of acts.now) graph.old post }
     requires plain { 2 ^ 30 ≤ most → MakeNoBinder (acts_of acts.now) graph.old post }
-    ensures { (k : plain) → Stands graph.old post (Tree.formula k) → IsAnswerIn most graph.old (vp (acts_of acts.now) k) result graph.new }
+    ensures { (k : plain) → Stands graph.old post (Tree.formula k)
+        → IsAnswerIn most graph.old (vp (acts_of acts.now) k) result graph.new }
 {
     let len = graph.len();
     let result = from_post(graph, acts, post, most);
@@ -82,13 +100,15 @@ pub fn vp_in(graph: &mut Graph, acts: &[Act], post: NodeId, most: u64) -> Result
     result
 }
 
-/// The same, but the list may have grown where it stops, as below.
+/// Returns the node of the form of the acts before the node `post`. On an error the graph may have
+/// grown.
 fn from_post(graph: &mut Graph, acts: &[Act], post: NodeId, most: u64) -> Result<NodeId, VpStop>
     requires most { most < 2 ^ 63 }
     requires post { Follows (acts_of acts.now) graph.old post }
     requires plain { 2 ^ 30 ≤ most → MakeNoBinder (acts_of acts.now) graph.old post }
     ensures begins { Begins graph.old graph.new }
-    ensures made { (k : plain) → Stands graph.old post (Tree.formula k) → IsMade most (vp (acts_of acts.now) k) result graph.new }
+    ensures made { (k : plain) → Stands graph.old post (Tree.formula k)
+        → IsMade most (vp (acts_of acts.now) k) result graph.new }
 {
     match small(graph, post, most) {
         Ok(form) => over_acts(graph, acts, form, most),
@@ -102,7 +122,8 @@ fn over_acts(graph: &mut Graph, acts: &[Act], post: NodeId, most: u64) -> Result
     requires ready { IsReady most (AreFit (acts_of acts.now)) graph.old post }
     requires calm { 2 ^ 30 ≤ most → HaveNoAny (acts_of acts.now) }
     ensures begins { Begins graph.old graph.new }
-    ensures made { (k : plain) → Stands graph.old post (Tree.formula k) → IsMade most (vp (acts_of acts.now) k) result graph.new }
+    ensures made { (k : plain) → Stands graph.old post (Tree.formula k)
+        → IsMade most (vp (acts_of acts.now) k) result graph.new }
 {
     let mut form = post;
     let mut rest = acts;
@@ -122,7 +143,8 @@ fn over_act(graph: &mut Graph, act: &Act, form: NodeId, most: u64) -> Result<Nod
     requires ready { IsReady most (IsFit (act_of act.now)) graph.old form }
     requires calm { 2 ^ 30 ≤ most → HasNoAny (act_of act.now) }
     ensures begins { Begins graph.old graph.new }
-    ensures made { (k : plain) → Stands graph.old form (Tree.formula k) → IsMade most (vp_act (act_of act.now) k) result graph.new }
+    ensures made { (k : plain) → Stands graph.old form (Tree.formula k)
+        → IsMade most (vp_act (act_of act.now) k) result graph.new }
 {
     match act {
         Act::Set(x, t, _) => put(graph, form, *x, t, most),
@@ -153,7 +175,9 @@ fn over_pick(
     requires second { IsReady most (AreFit (acts_of b.now)) graph.old form }
     requires calm { 2 ^ 30 ≤ most → HaveNoAny (acts_of a.now) × HaveNoAny (acts_of b.now) }
     ensures begins { Begins graph.old graph.new }
-    ensures made { (k : plain) → Stands graph.old form (Tree.formula k) → IsMade most (pick_form up (vp (acts_of a.now) k) (vp (acts_of b.now) k)) result graph.new }
+    ensures made { (k : plain) → Stands graph.old form (Tree.formula k)
+        → IsMade most (pick_form up (vp (acts_of a.now) k) (vp (acts_of b.now) k)) result
+        graph.new }
 {
     match over_acts(graph, a, form, most) {
         Ok(first) => match over_acts(graph, b, form, most) {
@@ -175,9 +199,12 @@ fn over_if(
     requires most { most < 2 ^ 63 }
     requires arms { IsReady most (ArmsAreFit (arms_of arms.now)) graph.old form }
     requires otherwise { IsReady most (AreFit (acts_of otherwise.now)) graph.old form }
-    requires calm { 2 ^ 30 ≤ most → HaveNoAnyIn (arms_of arms.now) × HaveNoAny (acts_of otherwise.now) }
+    requires calm { 2 ^ 30 ≤ most → HaveNoAnyIn (arms_of arms.now)
+        × HaveNoAny (acts_of otherwise.now) }
     ensures begins { Begins graph.old graph.new }
-    ensures made { (k : plain) → Stands graph.old form (Tree.formula k) → IsMade most (vp_arms (arms_of arms.now) k (vp (acts_of otherwise.now) k)) result graph.new }
+    ensures made { (k : plain) → Stands graph.old form (Tree.formula k)
+        → IsMade most (vp_arms (arms_of arms.now) k (vp (acts_of otherwise.now) k)) result
+        graph.new }
 {
     match over_acts(graph, otherwise, form, most) {
         Ok(start) => over_arms(graph, arms, form, start, most),
@@ -198,7 +225,9 @@ fn over_arms(
     requires start { IsPlaced most graph.old start }
     requires calm { 2 ^ 30 ≤ most → HaveNoAnyIn (arms_of arms.now) }
     ensures begins { Begins graph.old graph.new }
-    ensures made { (k l : plain) → Stands graph.old form (Tree.formula k) → Stands graph.old start (Tree.formula l) → IsMade most (vp_arms (arms_of arms.now) k l) result graph.new }
+    ensures made { (k l : plain) → Stands graph.old form (Tree.formula k)
+        → Stands graph.old start (Tree.formula l)
+        → IsMade most (vp_arms (arms_of arms.now) k l) result graph.new }
 {
     let mut chosen = start;
     let mut rest = arms;
@@ -225,7 +254,10 @@ fn over_arm(
     requires others { IsFormula graph.old others }
     requires calm { 2 ^ 30 ≤ most → HaveNoAny (acts_of arm.now.1.items) }
     ensures begins { Begins graph.old graph.new }
-    ensures made { (k l : plain) → Stands graph.old form (Tree.formula k) → Stands graph.old others (Tree.formula l) → IsMade most (plain.select (cond_of arm.now.0) (vp (acts_of arm.now.1.items) k) l) result graph.new }
+    ensures made { (k l : plain) → Stands graph.old form (Tree.formula k)
+        → Stands graph.old others (Tree.formula l)
+        → IsMade most (plain.select (cond_of arm.now.0) (vp (acts_of arm.now.1.items) k) l) result
+        graph.new }
 {
     match over_acts(graph, &arm.1, form, most) {
         Ok(branch) => selected(graph, &arm.0, branch, others, most),

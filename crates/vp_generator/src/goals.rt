@@ -1,4 +1,4 @@
-//! Goals of forms with binders: the inequality over states and choices as one over states alone.
+//! Goals of forms with binders: the inequality over states and choices, as one over states alone.
 
 ghost use Rattle.std.specs.Prelude.{◌≡◌, ◌<◌, ◌^◌, ◌∷◌, length, IfOk};
 ghost use Rattle.heylo_formula.specs.BinderNames.{binders};
@@ -13,9 +13,9 @@ use heyvl_acts::VarInfo;
 use heyvl_places::Name;
 use std::alloc::{AllocError, Global};
 
-/// The goal of a stated form without binders and of a found one over the variables, in which the found form's binders are
-/// variables of their own. Nodes or Depth comes exactly where the found form, with its binders, has more than 200,000 nodes or
-/// is deeper than 1,000; the stated form has no limit.
+/// Returns the goal that compares `stated`, which has no binders, with `found`, whose binders
+/// become variables. Returns `Nodes` or `Depth` exactly if `found`, with its binders, has more than
+/// 200,000 nodes or is more than 1,000 deep. `stated` has no limit.
 pub fn goal_of_forms(
     alloc: Global,
     upper: bool,
@@ -47,7 +47,7 @@ pub fn goal_of_forms(
     }))
 }
 
-/// The types of variables, by number.
+/// Returns the types of the variables, in their order.
 fn types_of(alloc: Global, vars: &[VarInfo]) -> Result<Vec<Ty>, AllocError>
     ensures { IfOk result (λ types. types.items ≡ types_of_variables vars.now) }
 {
@@ -58,7 +58,7 @@ fn types_of(alloc: Global, vars: &[VarInfo]) -> Result<Vec<Ty>, AllocError>
     Ok(types)
 }
 
-/// The names of variables, by number.
+/// Returns the names of the variables, in their order.
 fn names_of(alloc: Global, vars: &[VarInfo]) -> Result<Vec<Name>, AllocError>
     ensures { IfOk result (λ names. names.items ≡ names_of_variables vars.now) }
 {

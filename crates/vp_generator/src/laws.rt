@@ -1,4 +1,5 @@
-//! The laws. Each function does nothing: its contract is the law.
+//! Laws of the generated form and of the prenexed form. Each function does nothing: its contract is
+//! the law.
 
 ghost use Rattle.vp_generator.specs.Laws as law;
 ghost use Rattle.vp_generator.specs.PrenexLaws as prenex;
@@ -7,8 +8,9 @@ ghost use Rattle.vp_generator.specs.DirectedActs as directed;
 ghost use Rattle.vp_generator.specs.Over as over;
 ghost use Rattle.vp_generator.specs.Scopes as scopes;
 
-/// The generated form has the acts' forward meaning as its value, for the same choices. It is a formula, its free variables
-/// are those of the acts and of the post, and its binders are named after variables that acts give any value.
+/// States that the value of the generated form is the acts' forward meaning, for the same choices.
+/// The form is a formula, its free variables are among those of the acts and of the post, and its
+/// binders are named after variables that acts give any value.
 pub fn generated_form_means_acts()
     ensures value { law.GeneratedFormMeansActs }
     ensures typed { law.GeneratedFormIsFormula }
@@ -16,13 +18,15 @@ pub fn generated_form_means_acts()
     ensures named { scopes.GeneratedFormIsNamed }
 {}
 
-/// The binders of the generated form are of the procedure's direction, and stand under operators that keep the best value.
+/// States that the binders of the generated form have the procedure's direction and are below
+/// operators that keep the best value.
 pub fn generated_form_is_directed()
     ensures acts { directed.GeneratedFormIsDirected }
     ensures procedures { directed.FormOfProcedureIsDirected }
 {}
 
-/// The values of the prenexed form over all values of the new variables are those of the form over all choice trees.
+/// States that the values of the prenexed form, over all values of the new variables, are those of
+/// the form over all choices.
 pub fn prenexed_form_means_choices()
     ensures given { prenex.ChoicesAreValues }
     ensures found { prenex.ValuesAreChoices }
@@ -31,8 +35,8 @@ pub fn prenexed_form_means_choices()
     ensures plain { prenex.PrenexedFormHasNoBinder }
 {}
 
-/// A goal whose found form is prenexed holds exactly where the inequality holds for all choices; in a state in which it fails, the
-/// inequality fails for some.
+/// States that a goal with a prenexed form holds exactly if the inequality holds for all choices.
+/// In a state in which the goal fails, the inequality fails for some choices.
 pub fn prenexed_goals_speak_of_choices()
     ensures holds { goals.PrenexedGoalsSpeakOfChoices }
     ensures goals { goals.PrenexedGoalsAreGoals }

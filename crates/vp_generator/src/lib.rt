@@ -1,4 +1,6 @@
-//! The verification preexpectation of acts as a formula, and formulas without binders.
+//! The pre-expectation of acts as a formula, and formulas without binders.
+//!
+//! `AllocError` means that memory ran out.
 #![tactic(auto)]
 
 mod draws;

@@ -1,7 +1,7 @@
-//! The limits of a form that is generated, or that is found for a goal.
+//! The limits of a form that is generated, or computed for a goal.
 
-/// A form has at most so many nodes.
+/// The number of nodes that a form may have.
 pub const MOST_NODES: u64 = 200_000;
 
-/// A form is at most so deep; a leaf has depth 1.
+/// The depth that a form may have. A leaf has the depth 1.
 pub const DEEPEST: u64 = 1_000;

@@ -1,4 +1,4 @@
-//! The form in which each occurrence of a binder has a variable of its own.
+//! The prenexed form, in which each occurrence of a binder is a variable.
 
 ghost use Rattle.std.specs.Prelude.{◌≡◌, ◌+◌, ◌<◌, ◌^◌, ◌++◌, ◌∷◌, length, IfOk};
 ghost use Prim.Native.Nat.{suc};
@@ -15,7 +15,8 @@ use heylo_formula::{Cond, Form, Ty};
 use heyvl_acts::VarInfo;
 use std::alloc::{AllocError, Global};
 
-/// The number of a variable under binders that are listed with their new numbers, the innermost last.
+/// Returns the number of a variable under the binders in `scope`, which are listed with their new
+/// numbers, the innermost last.
 fn number_in(scope: &[(u32, u32)], var: u32) -> u32
     ensures { result ≡ number_in scope.now var }
 {
@@ -29,8 +30,8 @@ fn number_in(scope: &[(u32, u32)], var: u32) -> u32
     var
 }
 
-/// The form without binders, which are added to those that were found. The first one found has the number `first`. The scope is
-/// as before, where nothing fails.
+/// Returns the form without binders, and appends these to `found`. The first binder of `found` has
+/// the number `first`. The scope is left as it was, unless memory runs out.
 #[cycle(unbinding)]
 fn form_unbound(
     alloc: Global,
@@ -40,8 +41,11 @@ fn form_unbound(
     found: &mut Vec<(u32, Ty)>,
 ) -> Result<Form, AllocError>
     requires { first + length found.now.items + length (binders (form_of form.now)) < 2 ^ 31 }
-    ensures tree { IfOk result (λ g. form_of g ≡ unbound (number_in scope.old.items) (first + length found.old.items) (form_of form.now)) }
-    ensures found { IfOk result (λ g. found.new.items ≡ found.old.items ++ binders (form_of form.now)) }
+    ensures tree { IfOk result
+        (λ g. form_of g ≡ unbound (number_in scope.old.items) (first + length found.old.items)
+        (form_of form.now)) }
+    ensures found { IfOk result
+        (λ g. found.new.items ≡ found.old.items ++ binders (form_of form.now)) }
     ensures scope { IfOk result (λ _. scope.new.items ≡ scope.old.items) }
 {
     match form {
@@ -98,8 +102,11 @@ fn cond_unbound(
     found: &mut Vec<(u32, Ty)>,
 ) -> Result<Cond, AllocError>
     requires { first + length found.now.items + length (binders_in (cond_of cond.now)) < 2 ^ 31 }
-    ensures tree { IfOk result (λ g. cond_of g ≡ unbound_in (number_in scope.old.items) (first + length found.old.items) (cond_of cond.now)) }
-    ensures found { IfOk result (λ g. found.new.items ≡ found.old.items ++ binders_in (cond_of cond.now)) }
+    ensures tree { IfOk result
+        (λ g. cond_of g ≡ unbound_in (number_in scope.old.items) (first + length found.old.items)
+        (cond_of cond.now)) }
+    ensures found { IfOk result
+        (λ g. found.new.items ≡ found.old.items ++ binders_in (cond_of cond.now)) }
     ensures scope { IfOk result (λ _. scope.new.items ≡ scope.old.items) }
 {
     match cond {
@@ -143,8 +150,11 @@ fn one(
     found: &mut Vec<(u32, Ty)>,
 ) -> Result<Box<Form>, AllocError>
     requires { first + length found.now.items + length (binders (form_of a.now)) < 2 ^ 31 }
-    ensures tree { IfOk result (λ g. form_of g.value ≡ unbound (number_in scope.old.items) (first + length found.old.items) (form_of a.now)) }
-    ensures found { IfOk result (λ g. found.new.items ≡ found.old.items ++ binders (form_of a.now)) }
+    ensures tree { IfOk result
+        (λ g. form_of g.value ≡ unbound (number_in scope.old.items) (first + length found.old.items)
+        (form_of a.now)) }
+    ensures found { IfOk result
+        (λ g. found.new.items ≡ found.old.items ++ binders (form_of a.now)) }
     ensures scope { IfOk result (λ _. scope.new.items ≡ scope.old.items) }
 {
     Ok(Box::new(alloc, form_unbound(alloc, a, scope, first, found)?)?)
@@ -159,8 +169,11 @@ fn one_in(
     found: &mut Vec<(u32, Ty)>,
 ) -> Result<Box<Cond>, AllocError>
     requires { first + length found.now.items + length (binders_in (cond_of g.now)) < 2 ^ 31 }
-    ensures tree { IfOk result (λ r. cond_of r.value ≡ unbound_in (number_in scope.old.items) (first + length found.old.items) (cond_of g.now)) }
-    ensures found { IfOk result (λ r. found.new.items ≡ found.old.items ++ binders_in (cond_of g.now)) }
+    ensures tree { IfOk result
+        (λ r. cond_of r.value
+        ≡ unbound_in (number_in scope.old.items) (first + length found.old.items) (cond_of g.now)) }
+    ensures found { IfOk result
+        (λ r. found.new.items ≡ found.old.items ++ binders_in (cond_of g.now)) }
     ensures scope { IfOk result (λ _. scope.new.items ≡ scope.old.items) }
 {
     Ok(Box::new(alloc, cond_unbound(alloc, g, scope, first, found)?)?)
@@ -175,10 +188,18 @@ fn both(
     first: u32,
     found: &mut Vec<(u32, Ty)>,
 ) -> Result<(Box<Form>, Box<Form>), AllocError>
-    requires { first + length found.now.items + length (binders (form_of a.now) ++ binders (form_of b.now)) < 2 ^ 31 }
-    ensures left { IfOk result (λ r. form_of r.0.value ≡ unbound (number_in scope.old.items) (first + length found.old.items) (form_of a.now)) }
-    ensures right { IfOk result (λ r. form_of r.1.value ≡ unbound (number_in scope.old.items) (first + length found.old.items + length (binders (form_of a.now))) (form_of b.now)) }
-    ensures found { IfOk result (λ r. found.new.items ≡ found.old.items ++ (binders (form_of a.now) ++ binders (form_of b.now))) }
+    requires { first + length found.now.items
+        + length (binders (form_of a.now) ++ binders (form_of b.now)) < 2 ^ 31 }
+    ensures left { IfOk result
+        (λ r. form_of r.0.value
+        ≡ unbound (number_in scope.old.items) (first + length found.old.items) (form_of a.now)) }
+    ensures right { IfOk result
+        (λ r. form_of r.1.value
+        ≡ unbound (number_in scope.old.items)
+        (first + length found.old.items + length (binders (form_of a.now))) (form_of b.now)) }
+    ensures found { IfOk result
+        (λ r. found.new.items ≡ found.old.items
+        ++ (binders (form_of a.now) ++ binders (form_of b.now))) }
     ensures scope { IfOk result (λ _. scope.new.items ≡ scope.old.items) }
 {
     let left = one(alloc, a, scope, first, found)?;
@@ -195,10 +216,18 @@ fn both_in(
     first: u32,
     found: &mut Vec<(u32, Ty)>,
 ) -> Result<(Box<Cond>, Box<Cond>), AllocError>
-    requires { first + length found.now.items + length (binders_in (cond_of g.now) ++ binders_in (cond_of h.now)) < 2 ^ 31 }
-    ensures left { IfOk result (λ r. cond_of r.0.value ≡ unbound_in (number_in scope.old.items) (first + length found.old.items) (cond_of g.now)) }
-    ensures right { IfOk result (λ r. cond_of r.1.value ≡ unbound_in (number_in scope.old.items) (first + length found.old.items + length (binders_in (cond_of g.now))) (cond_of h.now)) }
-    ensures found { IfOk result (λ r. found.new.items ≡ found.old.items ++ (binders_in (cond_of g.now) ++ binders_in (cond_of h.now))) }
+    requires { first + length found.now.items
+        + length (binders_in (cond_of g.now) ++ binders_in (cond_of h.now)) < 2 ^ 31 }
+    ensures left { IfOk result
+        (λ r. cond_of r.0.value
+        ≡ unbound_in (number_in scope.old.items) (first + length found.old.items) (cond_of g.now)) }
+    ensures right { IfOk result
+        (λ r. cond_of r.1.value
+        ≡ unbound_in (number_in scope.old.items)
+        (first + length found.old.items + length (binders_in (cond_of g.now))) (cond_of h.now)) }
+    ensures found { IfOk result
+        (λ r. found.new.items ≡ found.old.items
+        ++ (binders_in (cond_of g.now) ++ binders_in (cond_of h.now))) }
     ensures scope { IfOk result (λ _. scope.new.items ≡ scope.old.items) }
 {
     let left = one_in(alloc, g, scope, first, found)?;
@@ -216,9 +245,14 @@ fn choice(
     first: u32,
     found: &mut Vec<(u32, Ty)>,
 ) -> Result<Form, AllocError>
-    requires { first + length found.now.items + length (binders (plain.select (cond_of g.now) (form_of a.now) (form_of b.now))) < 2 ^ 31 }
-    ensures tree { IfOk result (λ r. form_of r ≡ unbound (number_in scope.old.items) (first + length found.old.items) (plain.select (cond_of g.now) (form_of a.now) (form_of b.now))) }
-    ensures found { IfOk result (λ r. found.new.items ≡ found.old.items ++ binders (plain.select (cond_of g.now) (form_of a.now) (form_of b.now))) }
+    requires { first + length found.now.items
+        + length (binders (plain.select (cond_of g.now) (form_of a.now) (form_of b.now))) < 2 ^ 31 }
+    ensures tree { IfOk result
+        (λ r. form_of r ≡ unbound (number_in scope.old.items) (first + length found.old.items)
+        (plain.select (cond_of g.now) (form_of a.now) (form_of b.now))) }
+    ensures found { IfOk result
+        (λ r. found.new.items ≡ found.old.items
+        ++ binders (plain.select (cond_of g.now) (form_of a.now) (form_of b.now))) }
     ensures scope { IfOk result (λ _. scope.new.items ≡ scope.old.items) }
 {
     let test = one_in(alloc, g, scope, first, found)?;
@@ -236,9 +270,15 @@ fn choice_in(
     first: u32,
     found: &mut Vec<(u32, Ty)>,
 ) -> Result<Cond, AllocError>
-    requires { first + length found.now.items + length (binders_in (plain_cond.ite (cond_of g.now) (cond_of h.now) (cond_of k.now))) < 2 ^ 31 }
-    ensures tree { IfOk result (λ r. cond_of r ≡ unbound_in (number_in scope.old.items) (first + length found.old.items) (plain_cond.ite (cond_of g.now) (cond_of h.now) (cond_of k.now))) }
-    ensures found { IfOk result (λ r. found.new.items ≡ found.old.items ++ binders_in (plain_cond.ite (cond_of g.now) (cond_of h.now) (cond_of k.now))) }
+    requires { first + length found.now.items
+        + length (binders_in (plain_cond.ite (cond_of g.now) (cond_of h.now) (cond_of k.now)))
+        < 2 ^ 31 }
+    ensures tree { IfOk result
+        (λ r. cond_of r ≡ unbound_in (number_in scope.old.items) (first + length found.old.items)
+        (plain_cond.ite (cond_of g.now) (cond_of h.now) (cond_of k.now))) }
+    ensures found { IfOk result
+        (λ r. found.new.items ≡ found.old.items
+        ++ binders_in (plain_cond.ite (cond_of g.now) (cond_of h.now) (cond_of k.now))) }
     ensures scope { IfOk result (λ _. scope.new.items ≡ scope.old.items) }
 {
     let test = one_in(alloc, g, scope, first, found)?;
@@ -257,8 +297,12 @@ fn body(
     found: &mut Vec<(u32, Ty)>,
 ) -> Result<Form, AllocError>
     requires { first + length found.now.items + length (binder ∷ binders (form_of a.now)) < 2 ^ 31 }
-    ensures tree { IfOk result (λ r. form_of r ≡ unbound (renumbered var (first + length found.old.items) (number_in scope.old.items)) (suc (first + length found.old.items)) (form_of a.now)) }
-    ensures found { IfOk result (λ r. found.new.items ≡ found.old.items ++ (binder ∷ binders (form_of a.now))) }
+    ensures tree { IfOk result
+        (λ r. form_of r
+        ≡ unbound (renumbered var (first + length found.old.items) (number_in scope.old.items))
+        (suc (first + length found.old.items)) (form_of a.now)) }
+    ensures found { IfOk result
+        (λ r. found.new.items ≡ found.old.items ++ (binder ∷ binders (form_of a.now))) }
     ensures scope { IfOk result (λ _. scope.new.items ≡ scope.old.items) }
 {
     let outer = scope.len();
@@ -270,7 +314,8 @@ fn body(
     Ok(without)
 }
 
-/// The form with a variable of its own for each occurrence of a binder, added to the variables. A form that has none stays as it is.
+/// Returns the prenexed form, and appends one variable for each binder to `vars`. A form without
+/// binders stays as it is.
 pub fn prenex(alloc: Global, form: Form, vars: Vec<VarInfo>) -> Result<Prenex, AllocError>
     requires few { length vars.items + length (binders (form_of form)) < 2 ^ 31 }
     requires named { AreNamed (length vars.items) (binders (form_of form)) }
@@ -290,7 +335,7 @@ pub fn prenex(alloc: Global, form: Form, vars: Vec<VarInfo>) -> Result<Prenex, A
     })
 }
 
-/// The variables, and one more for each binder.
+/// Returns the variables, then one for each binder.
 fn with_vars(
     alloc: Global,
     vars: Vec<VarInfo>,

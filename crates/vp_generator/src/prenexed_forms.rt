@@ -1,4 +1,4 @@
-//! What prenex gives.
+//! Prenexed forms.
 
 use heylo_formula::Form;
 use heyvl_acts::VarInfo;

@@ -1,4 +1,4 @@
-//! Why no form is made.
+//! Errors of generating a form.
 
 ghost use Rattle.std.specs.Prelude.{◌≡◌, alloc_error};
 ghost use Rattle.vp_generator.specs.declared.stops.VpStop.TheVariants.{Memory};
@@ -6,13 +6,13 @@ ghost use Rattle.vp_generator.specs.declared.stops.VpStop.TheVariants.{Memory};
 use std::alloc::{AllocError, AllocFailed};
 use thiserror::Error;
 
-/// Why no form is made.
+/// An error of generating a form.
 #[derive(Debug, Drop, Error)]
 pub enum VpStop {
     /// The form is more than 1,000 deep.
     #[error("the form is more than 1,000 deep")]
     Depth,
-    /// The form has more nodes than it may have.
+    /// The form has more nodes than allowed: 200,000, or the limit that the caller passes.
     #[error("the form has too many nodes")]
     Nodes,
     /// Memory ran out.

@@ -1,4 +1,4 @@
--- Acts whose terms fit the variables that they are given to, by the shape of the acts. The crate speaks of it alone.
+-- Acts that are well typed for some types, by the shape of the acts.
 use Rattle.heylo_formula.specs.Formula.{Form, Term}
 use Rattle.heylo_formula.specs.Typing.{TermFits}
 use Rattle.heylo_formula.specs.declared.types.Ty.{Ty}
@@ -8,7 +8,7 @@ use Rattle.heyvl_num.specs.Rational.{Rational}
 use Rattle.std.specs.Prelude.{◌≡◌, ℕ, List}
 use Rattle.vp_generator.specs.Fit.{Fit}
 
--- One act, arms, a draw, the parts of a draw and a term, before what follows them.
+-- An act, arms, a draw, the parts of a draw and a term, before the formula `post`.
 abbrev pub IsFit : Act → Form → Type 0
 IsFit a post = Fit (λ types. ActFits types a) post
 
@@ -21,7 +21,7 @@ DrawIsFit x ps post = Fit (λ types. DrawFits types x ps) post
 abbrev pub PartsAreFit : ℕ → List (Rational × Term) → Form → Type 0
 PartsAreFit x ps post = Fit (λ types. PartsFit types x ps) post
 
--- A toss, and its variable.
+-- A toss, and its variable, before the formula `post`.
 abbrev pub TossIsFit : ℕ → Form → Form → Type 0
 TossIsFit x f post = Fit (λ types. (types x ≡ Ty.Bool) × IsWeight types f) post
 

@@ -1,4 +1,5 @@
--- What the code that makes a form in a graph is asked and answers. The list may have grown where it stops.
+-- Requirements and results of the functions that generate a form in a graph. The list of nodes may
+-- have grown even if they return an error.
 use Rattle.std.specs.Prelude.{◌≡◌, ℕ, ◌^◌, ◌≤◌, false, Result, Ok, Err, List}
 use Rattle.heylo_formula.specs.Formula.{Form}
 use Rattle.heylo_formula.specs.Binders.{has_binder}
@@ -8,7 +9,8 @@ use Rattle.heylo_graph.specs.declared.nodes.Node.{Node}
 use Rattle.vp_generator.specs.GraphAnswers.{IsWithin, IsStopAt}
 use Rattle.vp_generator.specs.declared.stops.VpStop.{VpStop}
 
--- A formula within the limits stands at the number, and is what is asked; where many nodes may come, it has no binder.
+-- The tree of the node `i` is a form within the limits that satisfies `Asked`. If `most` is at
+-- least 2^30, it has no binder.
 pub record IsReady (most : ℕ) (Asked : Form → Type 0) (ns : List Node) (i : ℕ) : Type 0 where
   pub form : Form
   pub stands : Stands ns i (Tree.formula form)
@@ -16,13 +18,14 @@ pub record IsReady (most : ℕ) (Asked : Form → Type 0) (ns : List Node) (i : 
   pub within : IsWithin most form
   pub plain : 2 ^ 30 ≤ most → has_binder form ≡ false
 
--- A formula within the limits stands at the number.
+-- The tree of the node `i` is a form within the limits.
 pub record IsPlaced (most : ℕ) (ns : List Node) (i : ℕ) : Type 0 where
   pub form : Form
   pub stands : Stands ns i (Tree.formula form)
   pub within : IsWithin most form
 
--- The formula stands in the list and is within the limits, or passes one.
+-- The tree of the returned node is `f`, which is within the limits; or `f` exceeds the limit that
+-- the error names.
 abbrev pub IsMade : ℕ → Form → Result ℕ VpStop → List Node → Type 0
 IsMade most f (Ok i) ns = Stands ns i (Tree.formula f) × IsWithin most f
 IsMade most f (Err stop) ns = IsStopAt most f stop
