@@ -1,4 +1,4 @@
--- What is made of the copies that the program makes is made of the forms themselves.
+-- Goals made of the program's copies are goals of the formulas themselves.
 use Rattle.std.proofs.Common.{◌≡◌, ◌∙◌, ℕ, sym, ap, subst, Bool, List, map, length}
 use Rattle.std.proofs.lemmas.List.{length-map}
 use Rattle.std.proofs.lemmas.Result.{IfOk-weaker}
@@ -27,15 +27,15 @@ same_many xs ys e = sym (length-map xs variable_of) ∙ (ap (λ (l : List Variab
 pub named_as : (n m : ℕ) (f g : Form) → n ≡ m → f ≡ g → AreNamed m (binders g) → AreNamed n (binders f)
 named_as n m f g e i h = subst (λ x. AreNamed n (binders x)) (sym i) (subst (λ k. AreNamed k (binders g)) (sym e) h)
 
--- The goal over a form is that over an equal one.
+-- The goal of a formula is that of an equal one.
 pub made_as : (up : Bool) (vs : List Variable) (stated f g : Form) (r : Result Made AllocError) → f ≡ g → IfOk r (λ m. IsMadeWithin f (goal_over up vs stated f) m) → IfOk r (λ m. IsMadeWithin g (goal_over up vs stated g) m)
 made_as up vs stated f g r e h = subst (λ x. IfOk r (λ m. IsMadeWithin x (goal_over up vs stated x) m)) e h
 
--- What is made of copies of the variables and of the stated form.
+-- The goal made of copies of the variables and of the stated bound.
 pub made_of_copies : (up : Bool) (own vars : List VarInfo) (copy stated found : Form) (r : Result Made AllocError) → map variable_of own ≡ map variable_of vars → copy ≡ stated → AreNamed (length own) (binders found) → IfOk r (λ m. IsMade up copy found own m) → IfOk r (λ m. IsMadeWithin found (goal_over up (map variable_of vars) stated found) m)
 made_of_copies up own vars copy stated found r e i n h = IfOk-weaker r (λ m. IsMade up copy found own m) (λ m. IsMadeWithin found (goal_over up (map variable_of vars) stated found) m) (λ m k. subst (λ s. IsMadeWithin found (goal_over up (map variable_of vars) s found) m) i (is_made_within up own (map variable_of vars) copy found m e n k)) h
 
--- ---- What vp answers of a copy
+-- ---- The answer of `vp` on a copy
 
 pub vp_is : (a : Acts) (f g h : Form) → h ≡ vp a f → f ≡ g → h ≡ vp a g
 vp_is a f g h e i = e ∙ ap (λ x. vp a x) i

@@ -1,4 +1,5 @@
--- What is made of two forms over the program's variables is made of the goal over the same variables: names and types are the same.
+-- Goals over the program's variables are goals over the same variables: names and types are the
+-- same.
 use Rattle.std.proofs.Common.{◌≡◌, ℕ, ◌<◌, ◌+◌, refl, sym, ap, ◌∙◌, arith, Bool, List, [], ◌∷◌, ◌++◌, append_assoc, map, length, get_or}
 use Rattle.std.proofs.lemmas.List.{append-nil, length-append, length-map}
 use Prim.Native.Nat.{zero, suc}
@@ -62,13 +63,13 @@ made_over up vs us stated found e n = ap (λ t. prenexed_goal up t (names_of_var
     all : names_of_variables (named vs (binders found)) ≡ all_names us found
     all = all_are_named vs (binders found) n ∙ ap (λ l. l ++ map (λ (b : Binder). get_or l b.0 []) (binders found)) own
 
--- The limits are those of the found form.
+-- The limits are those of the computed form.
 pub is_made_within : (up : Bool) (vs : List VarInfo) (us : List Variable) (stated found : Form) (m : Made) → map variable_of vs ≡ us → AreNamed (length vs) (binders found) → IsMade up stated found vs m → IsMadeWithin found (goal_over up us stated found) m
 is_made_within up vs us stated found (made.Goal g) e n h = (h.0 ∙ made_over up vs us stated found e n, h.1)
 is_made_within up vs us stated found made.Depth e n h = h
 is_made_within up vs us stated found made.Nodes e n h = h
 
--- ---- How many
+-- ---- Numbers of variables and names
 
 pub new_types_length : (bs : List Binder) → length (new_types bs) ≡ length bs
 new_types_length [] = refl

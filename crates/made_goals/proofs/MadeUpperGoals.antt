@@ -1,4 +1,5 @@
--- The goal that the program makes of a form with binders and one without is the upper goal over the same variables.
+-- The goal that the program makes of a formula with binders and one without is the upper goal over
+-- the same variables.
 use Rattle.std.proofs.Common.{◌≡◌, ℕ, refl, sym, ap, ◌∙◌, true, List, [], ◌∷◌, ◌++◌, append_assoc, map, length, get_or}
 use Rattle.std.proofs.lemmas.List.{append-nil, length-map}
 use Rattle.heylo_formula.specs.BinderNames.{Binder, binders}

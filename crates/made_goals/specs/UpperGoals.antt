@@ -1,5 +1,4 @@
--- Upper goals whose stated form has binders.
--- Source: this project's own.
+-- Upper goals whose stated bound has binders. This project's own.
 use Rattle.std.specs.Prelude.{true, List, ◌++◌, length}
 use Rattle.heylo_formula.specs.BinderNames.{binders}
 use Rattle.heylo_formula.specs.Formula.{Form}
@@ -8,7 +7,14 @@ use Rattle.heyvl_acts.specs.Acts.{Variable, type_list}
 use Rattle.made_goals.specs.MadeGoals.{all_names}
 use Rattle.vp_generator.specs.PrenexedForms.{new_types, prenexed}
 
--- The goal over these variables that the first form is at least the second: the first one is stated, with a variable of its own for
--- each of its binders, and the second one, which has none, is found.
+-- `upper_goal vs stated found`: the goal over the variables `vs` that `stated` is at least `found`.
+-- Each binder of `stated` gets a separate variable, and `found` has no binders.
 abbrev pub upper_goal : List Variable → Form → Form → Goal
-upper_goal vs stated found = record { upper = true; stated = prenexed (length (type_list vs)) stated; found = found; types = type_list vs ++ new_types (binders stated); names = all_names vs stated; own = length (type_list vs) }
+upper_goal vs stated found = record {
+  upper = true;
+  stated = prenexed (length (type_list vs)) stated;
+  found = found;
+  types = type_list vs ++ new_types (binders stated);
+  names = all_names vs stated;
+  own = length (type_list vs);
+}

@@ -6,7 +6,7 @@ ghost use Rattle.std.specs.Prelude.{IfOk, map, ◌≡◌};
 use heyvl_acts::VarInfo;
 use std::alloc::{AllocError, Global};
 
-/// Variables of the same names and types. Want of memory is the one error.
+/// Returns variables with the same names and types.
 pub fn copied(alloc: Global, all: &[VarInfo]) -> Result<Vec<VarInfo>, AllocError>
     ensures { IfOk result (λ vars. map variable_of vars.items ≡ map variable_of all.now) }
 {
@@ -17,7 +17,7 @@ pub fn copied(alloc: Global, all: &[VarInfo]) -> Result<Vec<VarInfo>, AllocError
     Ok(vars)
 }
 
-/// A variable of the same name and type. Want of memory is the one error.
+/// Returns a variable with the same name and type.
 pub fn copy_of(alloc: Global, variable: &VarInfo) -> Result<VarInfo, AllocError>
     ensures { IfOk result (λ made. variable_of made ≡ variable_of variable.now) }
 {

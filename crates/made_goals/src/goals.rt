@@ -1,4 +1,4 @@
-//! Goals whose found form may have binders.
+//! Goals whose computed form may have binders.
 
 ghost use Rattle.heylo_formula.specs.BinderNames.{binders};
 ghost use Rattle.heylo_formula.specs.PlainTrees.{form_of};
@@ -16,8 +16,8 @@ use heyvl_acts::{Act, VarInfo};
 use std::alloc::{AllocError, Global};
 use vp_generator::{VpStop, goal_of_forms, vp};
 
-/// The goal that states a form over these variables and finds what acts make of another one; or the limit that what they make passes,
-/// with its binders. Want of memory is the one error.
+/// Returns the goal that compares the bound `stated` with the form computed from `acts` and `post`,
+/// over the variables `vars`; or the limit that the computed form with its binders exceeds.
 pub fn generated_goal(
     alloc: Global,
     upper: bool,
@@ -28,8 +28,12 @@ pub fn generated_goal(
 ) -> Result<Made, AllocError>
     requires few { length vars.now < 2 ^ 30 }
     requires fit { AreFit (acts_of acts.now) (form_of post.now) }
-    requires named { AreNamed (length vars.now) (binders (vp (acts_of acts.now) (form_of post.now))) }
-    ensures { let found = vp (acts_of acts.now) (form_of post.now) in IfOk result (λ made. IsMadeWithin found (goal_over upper (map variable_of vars.now) (form_of stated.now) found) made) }
+    requires named { AreNamed (length vars.now)
+        (binders (vp (acts_of acts.now) (form_of post.now))) }
+    ensures { let found = vp (acts_of acts.now) (form_of post.now) in
+        IfOk result (λ made.
+        IsMadeWithin found (goal_over upper (map variable_of vars.now) (form_of stated.now) found)
+        made) }
 {
     match vp(alloc, acts, post.copy(alloc)?) {
         Ok(found) => goal_over(alloc, upper, vars, stated, found),
@@ -39,8 +43,8 @@ pub fn generated_goal(
     }
 }
 
-/// The goal that states a form over these variables and finds another one; or the limit that the found one passes, with its binders.
-/// Want of memory is the one error.
+/// Returns the goal that compares the bound `stated` with the computed form `found`, over the
+/// variables `vars`; or the limit that `found` with its binders exceeds.
 pub fn goal_over(
     alloc: Global,
     upper: bool,
@@ -50,7 +54,9 @@ pub fn goal_over(
 ) -> Result<Made, AllocError>
     requires few { length vars.now < 2 ^ 30 }
     requires named { AreNamed (length vars.now) (binders (form_of found)) }
-    ensures { IfOk result (λ made. IsMadeWithin (form_of found) (goal_over upper (map variable_of vars.now) (form_of stated.now) (form_of found)) made) }
+    ensures { IfOk result (λ made.
+        IsMadeWithin (form_of found)
+        (goal_over upper (map variable_of vars.now) (form_of stated.now) (form_of found)) made) }
 {
     let own = copied(alloc, vars)?;
     goal_of_forms(alloc, upper, stated.copy(alloc)?, found, own)

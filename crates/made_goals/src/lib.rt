@@ -1,4 +1,5 @@
-//! Goals of two forms over variables: one that is stated, and one that is found.
+//! Goals of two formulas over variables: a stated bound, and a computed form. `AllocError` means
+//! that memory ran out.
 #![tactic(auto)]
 
 mod copies;

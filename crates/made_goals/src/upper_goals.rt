@@ -1,4 +1,4 @@
-//! Upper goals whose stated form has binders.
+//! Upper goals whose stated bound has binders.
 
 ghost use Rattle.heylo_formula.specs.BinderNames.{binders};
 ghost use Rattle.heylo_formula.specs.Goals.{goal_of};
@@ -15,8 +15,8 @@ use heyvl_places::Name;
 use std::alloc::{AllocError, Global};
 use vp_generator::prenex;
 
-/// The goal over these variables that the first form is at least the second. Each binder of the first one has a variable of its
-/// own; the second one has none. Want of memory is the one error.
+/// Returns the goal over the variables `vars` that `stated` is at least `found`. Each binder of
+/// `stated` gets a separate variable, and `found` has no binders.
 pub fn upper_goal(
     alloc: Global,
     stated: Form,
@@ -25,7 +25,8 @@ pub fn upper_goal(
 ) -> Result<Goal, AllocError>
     requires few { length vars.items + length (binders (form_of stated)) < 2 ^ 31 }
     requires named { AreNamed (length vars.items) (binders (form_of stated)) }
-    ensures { IfOk result (λ goal. goal_of goal ≡ upper_goal (map variable_of vars.items) (form_of stated) (form_of found)) }
+    ensures { IfOk result (λ goal. goal_of goal
+        ≡ upper_goal (map variable_of vars.items) (form_of stated) (form_of found)) }
 {
     let own = vars.len() as u32;
     let without = prenex(alloc, stated, vars)?;
@@ -41,7 +42,7 @@ pub fn upper_goal(
     })
 }
 
-/// The types of variables, by number.
+/// Returns the types of variables, by number.
 fn types_of(alloc: Global, vars: &[VarInfo]) -> Result<Vec<Ty>, AllocError>
     ensures { IfOk result (λ types. types.items ≡ types_of_variables vars.now) }
 {
@@ -52,7 +53,7 @@ fn types_of(alloc: Global, vars: &[VarInfo]) -> Result<Vec<Ty>, AllocError>
     Ok(types)
 }
 
-/// The names of variables, by number.
+/// Returns the names of variables, by number.
 fn names_of(alloc: Global, vars: &[VarInfo]) -> Result<Vec<Name>, AllocError>
     ensures { IfOk result (λ names. names.items ≡ names_of_variables vars.now) }
 {
