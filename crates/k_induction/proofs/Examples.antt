@@ -63,7 +63,7 @@ hop_two_copies : copies true here hop_guard hop_invariant (Acts.next hop_step Ac
     ≡ Acts.next hop_step (Acts.next (Act.check CheckKind.Assert hop_invariant here) (Acts.next (Act.ifs (Arms.arm hop_guard hop_last Arms.no_arm) Acts.done here) Acts.done))
 hop_two_copies = refl
 
--- ---- Three copies in a proc, of an empty body
+-- ---- Three copies of an empty body in a proc
 
 abbrev while_flag : Acts → Act
 while_flag acts = Act.ifs (Arms.arm (Cond.flag 0) acts Arms.no_arm) Acts.done here

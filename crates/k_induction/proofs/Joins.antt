@@ -1,4 +1,4 @@
--- Acts that are appended, and one copy more.
+-- Acts that are appended, and one more copy.
 use Rattle.std.proofs.Common.{◌≡◌, ℕ, ◌+◌, ◌≤◌, ap, ◌∙◌, refl, List, [], ◌∷◌, ◌++◌, arith, add-one}
 use Prim.Native.Nat.{zero, suc}
 use Rattle.std.specs.Prelude.{Bool}

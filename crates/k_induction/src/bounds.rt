@@ -1,4 +1,5 @@
-//! Acts that encodings make: checks of a bound, and acts under a condition. Upward is a coproc's direction.
+//! Acts of encodings: checks of a bound, and acts under a condition. `up` is true in a coproc and
+//! false in a proc.
 
 ghost use Rattle.heylo_formula.specs.PlainTrees.{cond_of, form_of};
 ghost use Rattle.heyvl_acts.specs.Acts.Act.{check as plain_check};
@@ -11,7 +12,7 @@ use heyvl_acts::Act;
 use heyvl_places::{CheckKind, Span};
 use std::alloc::{AllocError, Global};
 
-/// The check by which a bound is shown.
+/// Returns the check that proves a bound.
 pub fn must(up: bool) -> CheckKind
     ensures { result ≡ must up }
 {
@@ -22,7 +23,7 @@ pub fn must(up: bool) -> CheckKind
     }
 }
 
-/// The check by which a bound is taken as given.
+/// Returns the check that takes a bound as given.
 pub fn may(up: bool) -> CheckKind
     ensures { result ≡ may up }
 {
@@ -33,7 +34,7 @@ pub fn may(up: bool) -> CheckKind
     }
 }
 
-/// The check that keeps the better of a bound and what follows.
+/// Returns the check that takes the better of a bound and what follows.
 pub fn meets(up: bool) -> CheckKind
     ensures { result ≡ meets up }
 {
@@ -44,16 +45,17 @@ pub fn meets(up: bool) -> CheckKind
     }
 }
 
-/// The check of a copy of the formula.
+/// Returns the check of a copy of the formula.
 pub fn stated(alloc: Global, kind: CheckKind, form: &Form, span: Span) -> Result<Act, AllocError>
     ensures { IfOk result (λ made. act_of made ≡ plain_check kind (form_of form.now) span) }
 {
     Ok(Act::Check(kind, form.copy(alloc)?, span))
 }
 
-/// The acts where the condition holds, else nothing.
+/// Returns the acts if the condition holds, otherwise nothing.
 pub fn if_holds(alloc: Global, guard: &Cond, acts: Vec<Act>, span: Span) -> Result<Act, AllocError>
-    ensures { IfOk result (λ made. act_of made ≡ if_holds span (cond_of guard.now) (acts_of acts.items)) }
+    ensures { IfOk result (λ made. act_of made
+        ≡ if_holds span (cond_of guard.now) (acts_of acts.items)) }
 {
     let arms = vec![in alloc; (guard.copy(alloc)?, acts)]?;
     Ok(Act::If(arms, Vec::new(alloc), span))

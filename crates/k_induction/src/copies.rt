@@ -1,4 +1,4 @@
-//! The copies of a loop's body, made from the last one outward.
+//! The copies of a loop's body, built from the last one outward.
 
 ghost use Rattle.heylo_formula.specs.PlainTrees.{cond_of, form_of};
 ghost use Rattle.heyvl_acts.specs.PlainActs.{act_of, acts_of};
@@ -11,8 +11,8 @@ use heyvl_acts::Act;
 use heyvl_places::Span;
 use std::alloc::{AllocError, Global};
 
-/// The copies of the body that stand in the test of a loop's encoding: in a coproc where `up`, else in a proc. What is made
-/// beside the body has the span.
+/// Returns `k` copies of a loop's body for the encoding of the loop, in a coproc if `up` holds,
+/// otherwise in a proc. New acts have the place `span`.
 pub fn unrolled(
     alloc: Global,
     guard: &Cond,
@@ -23,7 +23,8 @@ pub fn unrolled(
     span: Span,
 ) -> Result<Vec<Act>, AllocError>
     requires { 1 ≤ k }
-    ensures { IfOk result (λ made. acts_of made.items ≡ copies up span (cond_of guard.now) (form_of inv.now) (acts_of body.now) k) }
+    ensures { IfOk result (λ made. acts_of made.items
+        ≡ copies up span (cond_of guard.now) (form_of inv.now) (acts_of body.now) k) }
 {
     let mut made = last_copy(alloc, inv, body, up, span)?;
     for count in 1..k {
@@ -33,7 +34,7 @@ pub fn unrolled(
     Ok(made)
 }
 
-/// The copy behind which nothing of the loop is left.
+/// Returns the last copy, after which nothing counts.
 fn last_copy(
     alloc: Global,
     inv: &Form,
@@ -41,7 +42,8 @@ fn last_copy(
     up: bool,
     span: Span,
 ) -> Result<Vec<Act>, AllocError>
-    ensures { IfOk result (λ made. acts_of made.items ≡ last_copy up span (form_of inv.now) (acts_of body.now)) }
+    ensures { IfOk result (λ made. acts_of made.items
+        ≡ last_copy up span (form_of inv.now) (acts_of body.now)) }
 {
     let mut made = Act::copy_all(alloc, body)?;
     made.push(stated(alloc, must(up), inv, span)?)?;
@@ -49,7 +51,7 @@ fn last_copy(
     Ok(made)
 }
 
-/// A copy before others, which are in the test of the loop's guard.
+/// Returns a copy followed by `others`, which is under the guard of the loop.
 fn another_copy(
     alloc: Global,
     inv: &Form,
@@ -58,7 +60,8 @@ fn another_copy(
     span: Span,
     others: Act,
 ) -> Result<Vec<Act>, AllocError>
-    ensures { IfOk result (λ made. acts_of made.items ≡ another_copy up span (form_of inv.now) (acts_of body.now) (act_of others)) }
+    ensures { IfOk result (λ made. acts_of made.items
+        ≡ another_copy up span (form_of inv.now) (acts_of body.now) (act_of others)) }
 {
     let mut made = Act::copy_all(alloc, body)?;
     made.push(stated(alloc, meets(up), inv, span)?)?;
@@ -66,7 +69,7 @@ fn another_copy(
     Ok(made)
 }
 
-/// The check behind which nothing counts.
+/// Returns the check after which nothing counts.
 fn no_more(alloc: Global, up: bool, span: Span) -> Result<Act, AllocError>
     ensures { IfOk result (λ made. act_of made ≡ no_more up span) }
 {

@@ -1,4 +1,5 @@
-//! The nested copies of a loop's body that latticed k-induction takes.
+//! The nested copies of a loop's body in latticed k-induction. `AllocError` means that memory ran
+//! out.
 #![tactic(auto)]
 
 mod bounds;

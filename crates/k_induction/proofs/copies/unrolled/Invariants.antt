@@ -4,6 +4,6 @@ use Rattle.heyvl_acts.specs.PlainActs.{acts_of}
 use Rattle.k_induction.specs.Copies.{copies}
 use Rattle.k_induction.proofs.copies.unrolled.Given as goal
 
--- So many copies are made.
+-- `count` copies are made.
 abbrev pub invariant-loop-count : goal.invariant-loop-count
 invariant-loop-count l = acts_of l.made.items ≡ copies l.up l.span (cond_of l.guard) (form_of l.inv) (acts_of l.body) l.count
