@@ -1,4 +1,4 @@
-//! The steps that put the acts of a block in front.
+//! Steps that put the acts of a block before the other items.
 
 ghost use Rattle.std.specs.Prelude.{◌≡◌, ◌<◌, ◌+◌, ◌^◌, IfOk, length, true, if◌then◌else◌};
 ghost use Rattle.heylo_formula.specs.State.{environment};
@@ -20,7 +20,8 @@ use heyvl_acts::Act;
 use quant_algebra::{Held, holds_at};
 use std::alloc::{AllocError, Global};
 
-/// The configuration in which the acts of a block, whose first stands at this place, come before the rest.
+/// Returns `config` with the items of `acts` instead of its first item. `place` is the place of the
+/// first act.
 fn with_block(
     alloc: Global,
     config: &Config,
@@ -29,7 +30,8 @@ fn with_block(
     acts: &[Act],
 ) -> Result<Config, AllocError>
     requires { place + length (in_order (acts_of acts.now)) < 2 ^ 31 }
-    ensures { IfOk result (λ next. stored next ≡ opened (stored config.now) p place (acts_of acts.now)) }
+    ensures { IfOk result (λ next. stored next
+        ≡ opened (stored config.now) p place (acts_of acts.now)) }
 {
     let mut items = Vec::new(alloc);
     push_block(&mut items, p, place, acts)?;
@@ -37,8 +39,8 @@ fn with_block(
     with_items(alloc, config, items)
 }
 
-/// The step of an if whose first block stands at this place: the block of the first arm whose guard holds, or the last
-/// block, comes before the rest.
+/// Takes the step of an if: the block of the first arm whose guard holds, otherwise the last block,
+/// comes first. `place` is the place of the first block.
 pub(crate) fn if_step(
     alloc: Global,
     config: &Config,
@@ -47,8 +49,13 @@ pub(crate) fn if_step(
     arms: &[(Cond, Vec<Act>)],
     other: &[Act],
 ) -> Result<Stepped, AllocError>
-    requires { place + length (inside_arms (arms_of arms.now)) + length (in_order (acts_of other.now)) < 2 ^ 31 }
-    ensures { IfOk result (λ stepped. reply_of stepped ≡ replied (guards_fit (arms_of arms.now) config.now.state.items) (surely (opened (stored config.now) p (taken_place place (arms_of arms.now) (environment config.now.state.items)) (taken (arms_of arms.now) (acts_of other.now) (environment config.now.state.items))))) }
+    requires { place + length (inside_arms (arms_of arms.now))
+        + length (in_order (acts_of other.now)) < 2 ^ 31 }
+    ensures { IfOk result (λ stepped. reply_of stepped
+        ≡ replied (guards_fit (arms_of arms.now) config.now.state.items)
+        (surely (opened (stored config.now) p
+        (taken_place place (arms_of arms.now) (environment config.now.state.items))
+        (taken (arms_of arms.now) (acts_of other.now) (environment config.now.state.items))))) }
 {
     let mut at = place;
     for arm in arms {
@@ -65,7 +72,7 @@ pub(crate) fn if_step(
     for_sure(alloc, next)
 }
 
-/// The step of a pick whose left block stands at this place.
+/// Takes the step of a pick. `place` is the place of the left block.
 pub(crate) fn pick_step(
     alloc: Global,
     config: &Config,
@@ -76,8 +83,14 @@ pub(crate) fn pick_step(
     decision: Option<&Decide>,
 ) -> Result<Stepped, AllocError>
     requires few { config.now.made < 2 ^ 31 }
-    requires small { place + length (in_order (acts_of left.now)) + length (in_order (acts_of right.now)) < 2 ^ 31 }
-    ensures { IfOk result (λ stepped. reply_of stepped ≡ replied true (surely (asked (if side_of (decision_of decision.entry) then opened (stored config.now) p place (acts_of left.now) else opened (stored config.now) p (place + length (in_order (acts_of left.now))) (acts_of right.now))))) }
+    requires small { place + length (in_order (acts_of left.now))
+        + length (in_order (acts_of right.now)) < 2 ^ 31 }
+    ensures { IfOk result (λ stepped. reply_of stepped
+        ≡ replied true
+        (surely (asked (if side_of (decision_of decision.entry)
+        then opened (stored config.now) p place (acts_of left.now)
+        else opened (stored config.now) p (place + length (in_order (acts_of left.now)))
+        (acts_of right.now))))) }
 {
     let mut next = if goes_left(decision) {
         with_block(alloc, config, p, place, left)?
@@ -88,7 +101,7 @@ pub(crate) fn pick_step(
     for_sure(alloc, next)
 }
 
-/// Whether the left side is decided; it is where none is.
+/// Returns whether the pick goes left, as it does unless the right side is decided.
 fn goes_left(decision: Option<&Decide>) -> bool
     ensures { result ≡ side_of (decision_of decision.entry) }
 {

@@ -9,10 +9,11 @@ use crate::configurations::Item;
 use heyvl_acts::Act;
 use std::alloc::AllocError;
 
-/// How many acts these are, those inside them included, where a u32 can tell.
+/// Returns the number of acts in a block, with the acts in them, up to the largest u32.
 #[cycle(counting)]
 pub(crate) fn size(acts: &[Act]) -> u32
-    ensures { length (in_order (acts_of acts.now)) < 2 ^ 31 → result ≡ length (in_order (acts_of acts.now)) }
+    ensures { length (in_order (acts_of acts.now)) < 2 ^ 31
+        → result ≡ length (in_order (acts_of acts.now)) }
 {
     let mut total: u32 = 0;
     for act in acts {
@@ -21,10 +22,11 @@ pub(crate) fn size(acts: &[Act]) -> u32
     total
 }
 
-/// How many acts are inside one, where a u32 can tell.
+/// Returns the number of acts in an act, up to the largest u32.
 #[cycle(counting)]
 fn inside_size(act: &Act) -> u32
-    ensures { length (inside (act_of act.now)) < 2 ^ 31 → result ≡ length (inside (act_of act.now)) }
+    ensures { length (inside (act_of act.now)) < 2 ^ 31
+        → result ≡ length (inside (act_of act.now)) }
 {
     match act {
         Act::If(arms, other, _) => {
@@ -40,7 +42,7 @@ fn inside_size(act: &Act) -> u32
     }
 }
 
-/// The items of a block are appended, whose first act stands at this place.
+/// Appends the items of a block. `place` is the place of its first act.
 pub(crate) fn push_block(
     items: &mut Vec<Item>,
     p: u32,
@@ -48,7 +50,8 @@ pub(crate) fn push_block(
     acts: &[Act],
 ) -> Result<(), AllocError>
     requires { place + length (in_order (acts_of acts.now)) < 2 ^ 31 }
-    ensures { OnOk result (items.new.items ≡ items.old.items ++ numbered p place (acts_of acts.now)) }
+    ensures { OnOk result (items.new.items ≡ items.old.items
+        ++ numbered p place (acts_of acts.now)) }
 {
     let mut at = place;
     for act in acts {

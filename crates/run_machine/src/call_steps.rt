@@ -1,6 +1,7 @@
 //! Calls and returns.
 
-ghost use Rattle.std.specs.Prelude.{◌≡◌, ◌<◌, ◌≤◌, ◌+◌, ◌++◌, ◌∷◌, [], List, IfOk, OnOk, drop, length, map, true};
+ghost use Rattle.std.specs.Prelude.{◌≡◌, ◌<◌, ◌≤◌, ◌+◌, ◌++◌, ◌∷◌, [], List, IfOk, OnOk, drop};
+ghost use Rattle.std.specs.Prelude.{length, map, true};
 ghost use Rattle.heylo_formula.specs.State.{default as default_of, environment};
 ghost use Rattle.heyvl_acts.specs.Acts.{procedure_at, type_list};
 ghost use Rattle.heyvl_acts.specs.PlainActs.{procedure_of, procedures_of, terms_of, variable_of};
@@ -22,7 +23,7 @@ use heylo_formula::{Term, Val};
 use heyvl_acts::{TProc, Typed};
 use std::alloc::{AllocError, Global};
 
-/// The step of a call that stands at this place.
+/// Takes the step of the call at `place` of the procedure `p`.
 pub(crate) fn call_step(
     alloc: Global,
     typed: &Typed,
@@ -35,7 +36,10 @@ pub(crate) fn call_step(
     requires there { q < length typed.now.procs.items }
     requires few { HasFewActs (procedures_of typed.now) }
     requires small { Each IsSmall typed.now.procs.items }
-    ensures { IfOk result (λ stepped. reply_of stepped ≡ replied (terms_fit (terms_of terms.now) config.now.state.items) (surely (entered (stored config.now) p place q (procedure_at (procedures_of typed.now) q) (evaluate (terms_of terms.now) (environment config.now.state.items))))) }
+    ensures { IfOk result (λ stepped. reply_of stepped
+        ≡ replied (terms_fit (terms_of terms.now) config.now.state.items)
+        (surely (entered (stored config.now) p place q (procedure_at (procedures_of typed.now) q)
+        (evaluate (terms_of terms.now) (environment config.now.state.items))))) }
 {
     match terms_at(alloc, terms, &config.state)? {
         None => Ok(Stepped::Bits),
@@ -46,7 +50,7 @@ pub(crate) fn call_step(
     }
 }
 
-/// The called procedure starts with these values of its inputs.
+/// Returns the configuration in which the procedure `q` starts with the values of its inputs.
 fn enter(
     alloc: Global,
     typed: &Typed,
@@ -59,7 +63,9 @@ fn enter(
     requires there { q < length typed.now.procs.items }
     requires few { HasFewActs (procedures_of typed.now) }
     requires small { Each IsSmall typed.now.procs.items }
-    ensures { IfOk result (λ next. stored next ≡ entered (stored config.now) p place q (procedure_at (procedures_of typed.now) q) values.items) }
+    ensures { IfOk result (λ next. stored next
+        ≡ entered (stored config.now) p place q
+        (procedure_at (procedures_of typed.now) q) values.items) }
 {
     let callee = &typed.procs[q as usize];
     let mut items = Vec::new(alloc);
@@ -80,9 +86,11 @@ fn enter(
     })
 }
 
-/// What the running procedure does after its first item, and its state.
+/// Returns the frame of the running procedure, which waits from now on: its items after the first,
+/// and its state.
 fn waiting(alloc: Global, config: &Config) -> Result<Frame, AllocError>
-    ensures { IfOk result (λ frame. lists_of frame ≡ (behind (stored config.now), config.now.state.items)) }
+    ensures { IfOk result (λ frame. lists_of frame
+        ≡ (behind (stored config.now), config.now.state.items)) }
 {
     Ok(Frame {
         items: Vec::from_slice(alloc, rest_of(config))?,
@@ -90,10 +98,13 @@ fn waiting(alloc: Global, config: &Config) -> Result<Frame, AllocError>
     })
 }
 
-/// The state in which a called procedure starts: its inputs have these values, every other variable is false or 0.
+/// Returns the first state of a called procedure: the inputs have these values, every other
+/// variable is false or 0.
 fn first_state(callee: &TProc, values: Vec<Val>) -> Result<Vec<Val>, AllocError>
     requires { IsSmall callee.now }
-    ensures { IfOk result (λ state. state.items ≡ values.items ++ map default_of (type_list (map variable_of (drop callee.now.inputs callee.now.vars.items)))) }
+    ensures { IfOk result (λ state. state.items ≡ values.items
+        ++ map default_of
+        (type_list (map variable_of (drop callee.now.inputs callee.now.vars.items)))) }
 {
     let mut state = values;
     for variable in &callee.vars[callee.inputs as usize..] {
@@ -102,10 +113,11 @@ fn first_state(callee: &TProc, values: Vec<Val>) -> Result<Vec<Val>, AllocError>
     Ok(state)
 }
 
-/// One item for each output of a called procedure.
+/// Appends one item for each output of the called procedure `q`.
 fn push_outs(items: &mut Vec<Item>, q: u32, callee: &TProc) -> Result<(), AllocError>
     requires { IsSmall callee.now }
-    ensures { OnOk result (items.new.items ≡ items.old.items ++ out_items q callee.now.inputs callee.now.outputs) }
+    ensures { OnOk result (items.new.items ≡ items.old.items
+        ++ out_items q callee.now.inputs callee.now.outputs) }
 {
     for x in callee.inputs..callee.inputs + callee.outputs {
         items.push(Item::Out(q, x))?;
@@ -113,7 +125,7 @@ fn push_outs(items: &mut Vec<Item>, q: u32, callee: &TProc) -> Result<(), AllocE
     Ok(())
 }
 
-/// The step of the return from a call of the procedure q with these targets.
+/// Takes the step of the return from a call of the procedure `q` with these targets.
 pub(crate) fn back_step(
     alloc: Global,
     typed: &Typed,
@@ -123,8 +135,15 @@ pub(crate) fn back_step(
 ) -> Result<Stepped, AllocError>
     requires there { q < length typed.now.procs.items }
     requires small { Each IsSmall typed.now.procs.items }
-    requires state { length (procedure_at (procedures_of typed.now) q).inputs + length (procedure_at (procedures_of typed.now) q).outputs ≤ length config.now.state.items }
-    ensures { IfOk result (λ stepped. (fs : List Lists) (f : Lists) → map lists_of config.now.frames.items ≡ fs ++ (f ∷ []) → reply_of stepped ≡ replied true (surely (resumed (stored config.now) targets.now (procedure_at (procedures_of typed.now) q) fs f))) }
+    requires state { length (procedure_at (procedures_of typed.now) q).inputs
+        + length (procedure_at (procedures_of typed.now) q).outputs
+        ≤ length config.now.state.items }
+    ensures { IfOk result (λ stepped. (fs : List Lists) (f : Lists)
+        → map lists_of config.now.frames.items ≡ fs ++ (f ∷ [])
+        → reply_of stepped
+        ≡ replied true
+        (surely (resumed (stored config.now) targets.now
+        (procedure_at (procedures_of typed.now) q) fs f))) }
 {
     let mut frames = copy_frames(alloc, &config.frames)?;
     match frames.pop() {
@@ -146,18 +165,19 @@ pub(crate) fn back_step(
     }
 }
 
-/// The targets take the values of the outputs in the callee's last state.
+/// Assigns the outputs in the callee's state `last` to the targets.
 fn take_outputs(state: &mut Vec<Val>, callee: &TProc, targets: &[u32], last: &[Val])
     requires small { IsSmall callee.now }
     requires long { callee.now.inputs + callee.now.outputs ≤ length last.now }
-    ensures { state.new.items ≡ set_all targets.now (outputs_of (procedure_of callee.now) last.now) state.old.items }
+    ensures { state.new.items
+        ≡ set_all targets.now (outputs_of (procedure_of callee.now) last.now) state.old.items }
 {
     let first = callee.inputs as usize;
     let end = (callee.inputs + callee.outputs) as usize;
     assign_all(state, targets, &last[first..end]);
 }
 
-/// Variables take values, each its own.
+/// Assigns each value to its variable, in order.
 fn assign_all(state: &mut Vec<Val>, targets: &[u32], values: &[Val])
     ensures { state.new.items ≡ set_all targets.now values.now state.old.items }
 {

@@ -1,4 +1,4 @@
-//! The step of a variable that takes any value.
+//! The step of a variable that takes any value of its type.
 
 ghost use Rattle.std.specs.Prelude.{◌≡◌, ◌<◌, ◌^◌, IfOk, true};
 ghost use Rattle.heylo_formula.specs.State.{fit};
@@ -13,7 +13,6 @@ use crate::plain_steps::with_value;
 use heylo_formula::{Ty, Val};
 use std::alloc::{AllocError, Global};
 
-/// The step of a variable that takes any value of its type.
 pub(crate) fn any_step(
     alloc: Global,
     config: &Config,
@@ -22,14 +21,17 @@ pub(crate) fn any_step(
     decision: Option<&Decide>,
 ) -> Result<Stepped, AllocError>
     requires { config.now.made < 2 ^ 31 }
-    ensures { IfOk result (λ stepped. reply_of stepped ≡ replied true (surely (asked (assigned (stored config.now) x (fit ty (value_of (decision_of decision.entry))))))) }
+    ensures { IfOk result (λ stepped. reply_of stepped
+        ≡ replied true
+        (surely (asked
+        (assigned (stored config.now) x (fit ty (value_of (decision_of decision.entry))))))) }
 {
     let mut next = with_value(alloc, config, x, fitting(ty, decision))?;
     next.made += 1;
     for_sure(alloc, next)
 }
 
-/// The value that is decided, where it is of the type, else false or 0.
+/// Returns the decided value if it has the type, otherwise false or 0.
 fn fitting(ty: Ty, decision: Option<&Decide>) -> Val
     ensures { result ≡ fit ty (value_of (decision_of decision.entry)) }
 {

@@ -22,9 +22,12 @@ use heylo_formula::Ty;
 use heyvl_acts::{Act, Typed, act_at};
 use std::alloc::{AllocError, Global};
 
-/// The configurations that may come next, in the order of the definition, each with its probability, those of probability 0
-/// too; none where the configuration has ended. Bits comes exactly where a number that the step needs doesn't fit, and else
-/// Deep exactly where the values of all frames and the state would be more than 512.
+/// Takes one step of `config` under a decision. Returns the next configurations with their
+/// probabilities, in the order of the definition and also where the probability is 0; a terminated
+/// configuration has none.
+///
+/// Returns `Bits` exactly if a number that the step needs overflows, otherwise `Deep` exactly if
+/// the state and all frames of a next configuration have more than 512 values.
 pub fn step(
     alloc: Global,
     typed: &Typed,
@@ -34,7 +37,8 @@ pub fn step(
     requires rules { MeetsAllRules typed.now }
     requires config { IsConfig (procedures_of typed.now) (stored config.now) }
     requires room { HasRoom (stored config.now) }
-    ensures { IfOk result (λ stepped. IsStep (procedures_of typed.now) (stored config.now) (decision_of decision.entry) stepped) }
+    ensures { IfOk result (λ stepped.
+        IsStep (procedures_of typed.now) (stored config.now) (decision_of decision.entry) stepped) }
 {
     match config.items.first() {
         None => Ok(Stepped::Next(Vec::new(alloc))),
@@ -45,7 +49,7 @@ pub fn step(
     }
 }
 
-/// The step of the act, or of the test of the loop under way, at this place.
+/// Takes the step of the act, or of the loop's test, at `place`.
 fn do_step(
     alloc: Global,
     typed: &Typed,
@@ -58,7 +62,8 @@ fn do_step(
     requires config { IsConfig (procedures_of typed.now) (stored config.now) }
     requires room { HasRoom (stored config.now) }
     requires first { IsAt p place config.now.items.items }
-    ensures { IfOk result (λ stepped. IsStep (procedures_of typed.now) (stored config.now) (decision_of decision.entry) stepped) }
+    ensures { IfOk result (λ stepped.
+        IsStep (procedures_of typed.now) (stored config.now) (decision_of decision.entry) stepped) }
 {
     match act_at(typed, p, place) {
         None => unreachable!(),
@@ -66,7 +71,7 @@ fn do_step(
     }
 }
 
-/// The step of an act that stands at this place.
+/// Takes the step of `act`, which is at `place`.
 fn act_step(
     alloc: Global,
     typed: &Typed,
@@ -78,8 +83,10 @@ fn act_step(
 ) -> Result<Stepped, AllocError>
     requires rules { MeetsAllRules typed.now }
     requires room { HasRoom (stored config.now) }
-    requires comes { ComesNext (procedures_of typed.now) (stored config.now) p place (act_of act.now) }
-    ensures { IfOk result (λ stepped. IsStep (procedures_of typed.now) (stored config.now) (decision_of decision.entry) stepped) }
+    requires comes { ComesNext (procedures_of typed.now) (stored config.now) p place
+        (act_of act.now) }
+    ensures { IfOk result (λ stepped.
+        IsStep (procedures_of typed.now) (stored config.now) (decision_of decision.entry) stepped) }
 {
     match act {
         Act::Set(x, term, _) => set_step(alloc, config, *x, term),
@@ -98,7 +105,7 @@ fn act_step(
     }
 }
 
-/// The step of the return to the call at this place.
+/// Takes the step of the return to the call at `place`.
 fn return_step(
     alloc: Global,
     typed: &Typed,
@@ -109,7 +116,8 @@ fn return_step(
     requires rules { MeetsAllRules typed.now }
     requires config { IsConfig (procedures_of typed.now) (stored config.now) }
     requires first { config.now.items.items ≡ Back p place ∷ drop 1 config.now.items.items }
-    ensures { IfOk result (λ stepped. (d : Decision) → IsStep (procedures_of typed.now) (stored config.now) d stepped) }
+    ensures { IfOk result (λ stepped. (d : Decision)
+        → IsStep (procedures_of typed.now) (stored config.now) d stepped) }
 {
     match act_at(typed, p, place) {
         None => unreachable!(),
@@ -117,11 +125,12 @@ fn return_step(
     }
 }
 
-/// The step of the return to this call.
+/// Takes the step of the return to the call `act`.
 fn to_call(alloc: Global, typed: &Typed, config: &Config, act: &Act) -> Result<Stepped, AllocError>
     requires rules { MeetsAllRules typed.now }
     requires returns { ReturnsNext (procedures_of typed.now) (stored config.now) (act_of act.now) }
-    ensures { IfOk result (λ stepped. (d : Decision) → IsStep (procedures_of typed.now) (stored config.now) d stepped) }
+    ensures { IfOk result (λ stepped. (d : Decision)
+        → IsStep (procedures_of typed.now) (stored config.now) d stepped) }
 {
     match act {
         Act::Call(targets, q, _, _) => back_step(alloc, typed, config, targets, *q),
@@ -138,7 +147,7 @@ fn to_call(alloc: Global, typed: &Typed, config: &Config, act: &Act) -> Result<S
     }
 }
 
-/// The type of a variable of a procedure.
+/// Returns the type of the variable `x` of the procedure `q`; `Bool` if there is none.
 fn type_of(typed: &Typed, q: u32, x: u32) -> Ty
     ensures { result ≡ types_of (procedure_at (procedures_of typed.now) q) x }
 {

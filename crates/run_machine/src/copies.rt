@@ -6,7 +6,7 @@ ghost use Rattle.run_machine.specs.Names.{stored, lists_of};
 use crate::configurations::{Config, Frame, Item};
 use std::alloc::{AllocError, Global};
 
-/// Copies of these frames, in their order.
+/// Returns copies of the frames, in their order.
 pub(crate) fn copy_frames(alloc: Global, frames: &[Frame]) -> Result<Vec<Frame>, AllocError>
     ensures { IfOk result (λ copied. map lists_of copied.items ≡ map lists_of frames.now) }
 {
@@ -26,13 +26,14 @@ fn copy_frame(alloc: Global, frame: &Frame) -> Result<Frame, AllocError>
     })
 }
 
-/// The configuration with other items.
+/// Returns `config` with other items.
 pub(crate) fn with_items(
     alloc: Global,
     config: &Config,
     items: Vec<Item>,
 ) -> Result<Config, AllocError>
-    ensures { IfOk result (λ next. stored next ≡ record (stored config.now) { items = items.items }) }
+    ensures { IfOk result (λ next. stored next
+        ≡ record (stored config.now) { items = items.items }) }
 {
     Ok(Config {
         proc: config.proc,
@@ -45,15 +46,16 @@ pub(crate) fn with_items(
     })
 }
 
-/// The configuration without its first item.
+/// Returns `config` without its first item.
 pub(crate) fn without_first(alloc: Global, config: &Config) -> Result<Config, AllocError>
-    ensures { IfOk result (λ next. stored next ≡ record (stored config.now) { items = drop 1 config.now.items.items }) }
+    ensures { IfOk result (λ next. stored next
+        ≡ record (stored config.now) { items = drop 1 config.now.items.items }) }
 {
     let items = Vec::from_slice(alloc, rest_of(config))?;
     with_items(alloc, config, items)
 }
 
-/// The items but for the first.
+/// Returns the items after the first.
 pub(crate) fn rest_of(config: &Config) -> &[Item]
     ensures { result.now ≡ drop 1 config.now.items.items }
 {

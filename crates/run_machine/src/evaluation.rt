@@ -15,10 +15,11 @@ use heyvl_num::{Ext, Frac};
 use quant_algebra::{At, Held, holds_at, value_at};
 use std::alloc::{AllocError, Global};
 
-/// The value of a term without binders, or None where a number that is needed doesn't fit.
+/// Returns the value of a term without binders, or `None` if a number on the way overflows.
 pub(crate) fn term_at(term: &Term, state: &[Val]) -> Option<Val>
     ensures exact { result ≡ exact_term (term_of term.now) state.now }
-    ensures meaning { IfSome result (λ v. v ≡ term_value (term_of term.now) (environment state.now)) }
+    ensures meaning { IfSome result
+        (λ v. v ≡ term_value (term_of term.now) (environment state.now)) }
 {
     match term {
         Term::Truth(cond) => match holds_at(cond, state) {
@@ -33,7 +34,7 @@ pub(crate) fn term_at(term: &Term, state: &[Val]) -> Option<Val>
     }
 }
 
-/// The finite number; 0 in place of infinity.
+/// Returns the number if it is finite, otherwise 0.
 pub(crate) fn finite(value: &Ext) -> Frac
     ensures { result ≡ finite_part (value_of value.now) }
 {
@@ -43,14 +44,17 @@ pub(crate) fn finite(value: &Ext) -> Frac
     }
 }
 
-/// The values of terms, in their order, or None where a number that is needed doesn't fit.
+/// Returns the values of terms, in their order, or `None` if a number on the way overflows.
 pub(crate) fn terms_at(
     alloc: Global,
     terms: &[Term],
     state: &[Val],
 ) -> Result<Option<Vec<Val>>, AllocError>
-    ensures fits { IfOk result (λ values. is_some values ≡ terms_fit (terms_of terms.now) state.now) }
-    ensures values { IfOk result (λ values. IfSome values (λ vs. vs.items ≡ evaluate (terms_of terms.now) (environment state.now))) }
+    ensures fits { IfOk result
+        (λ values. is_some values ≡ terms_fit (terms_of terms.now) state.now) }
+    ensures values { IfOk result
+        (λ values. IfSome values
+        (λ vs. vs.items ≡ evaluate (terms_of terms.now) (environment state.now))) }
 {
     let mut values = Vec::new(alloc);
     for term in terms {
@@ -62,7 +66,7 @@ pub(crate) fn terms_at(
     Ok(Some(values))
 }
 
-/// The variable takes the value.
+/// Assigns the value to the variable `x`, if there is one.
 pub(crate) fn assign(state: &mut Vec<Val>, x: u32, value: Val)
     ensures { state.new.items ≡ set state.old.items x value }
 {

@@ -4,13 +4,13 @@ ghost use Rattle.run_machine.specs.RunLaws as law;
 ghost use Rattle.run_machine.specs.SameConfigurations as same;
 ghost use Rattle.run_machine.specs.StoredLaws as stored;
 
-/// The weights of a step add up to 1 where those of a draw do.
+/// States that the weights of a step have the sum 1, if those of a draw do.
 pub fn steps_weigh_one()
     ensures { law.StepsWeighOne }
 {}
 
-/// A configuration and a decision have one step, and a decision that is missing, or isn't of the type that is asked for,
-/// stands for the left side, for false or for 0.
+/// States that a configuration and a decision determine the step, and that a decision that is
+/// missing, or has another type than the one asked for, means the left side, false or 0.
 pub fn decisions_decide_steps()
     ensures determined { law.StepsAreDetermined }
     ensures picks { law.PicksGoLeft }
@@ -19,20 +19,22 @@ pub fn decisions_decide_steps()
     ensures anys { law.AnysAreOuts }
 {}
 
-/// Runs go on where shorter runs have stopped, and a run that has ended stays.
+/// States that runs of more steps continue the runs of fewer steps, and that a terminated
+/// configuration stays as it is.
 pub fn runs_continue()
     ensures continued { law.RunsContinue }
     ensures ended { law.EndedStays }
 {}
 
-/// What is stored steps as the definition does: the first configuration stands for that of the definition, and, in a file that meets
-/// the rules, the step of each configuration that meets the condition for the step of the definition. No weight is negative.
+/// States that stored configurations step as the definition does: the first configuration is that
+/// of the definition and, in a file that satisfies the static rules, so is the step of each
+/// configuration that satisfies the condition on configurations. No weight is negative.
 pub fn stored_steps_are_meant()
     ensures begun { stored.StoredBeginningsAreMeant }
     ensures steps { stored.StoredStepsAreMeant }
 {}
 
-/// Configurations are the same by test exactly where they are equal.
+/// States that the test whether configurations are the same holds exactly if they are equal.
 pub fn same_is_equal()
     ensures { same.SameIsEqual }
 {}

@@ -1,4 +1,6 @@
 //! Runs of HeyVL programs, step by step.
+//!
+//! `AllocError` means that memory ran out.
 #![tactic(auto)]
 
 mod block_steps;

@@ -1,17 +1,18 @@
-//! The bound on the values of a configuration.
+//! The limit on the values of a configuration.
 
 ghost use Rattle.std.specs.Prelude.{◌≡◌, IfOk, nat_lt, true};
 ghost use Rattle.run_machine.specs.Names.{stored};
-ghost use Rattle.run_machine.specs.Replies.{reply_of, replied, stored_outcomes, stored_values, surely};
+ghost use Rattle.run_machine.specs.Replies.{reply_of, replied, stored_outcomes, stored_values};
+ghost use Rattle.run_machine.specs.Replies.{surely};
 
 use crate::configurations::{Config, Stepped};
 use heyvl_num::Frac;
 use std::alloc::{AllocError, Global};
 
-/// How many values all frames and the state may have.
+/// The number of values that the state and all frames may have together.
 const MOST_VALUES: usize = 512;
 
-/// Whether all frames and the state have more values than they may.
+/// Returns whether the state and all frames have more values than `MOST_VALUES`.
 fn is_deep(config: &Config) -> bool
     ensures { result ≡ nat_lt 512 (stored_values (stored config.now)) }
 {
@@ -28,7 +29,7 @@ fn is_deep(config: &Config) -> bool
     false
 }
 
-/// These outcomes, or Deep where one of them has too many values.
+/// Returns the outcomes, or `Deep` if one of them has more than 512 values.
 pub(crate) fn limited(outcomes: Vec<(Frac, Config)>) -> Stepped
     ensures { reply_of result ≡ replied true (stored_outcomes outcomes.items) }
 {
@@ -40,7 +41,7 @@ pub(crate) fn limited(outcomes: Vec<(Frac, Config)>) -> Stepped
     Stepped::Next(outcomes)
 }
 
-/// The one outcome, for sure.
+/// Returns the one outcome `next` with the probability 1, or `Deep` if it has more than 512 values.
 pub(crate) fn for_sure(alloc: Global, next: Config) -> Result<Stepped, AllocError>
     ensures { IfOk result (λ stepped. reply_of stepped ≡ replied true (surely (stored next))) }
 {

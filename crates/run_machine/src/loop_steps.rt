@@ -1,6 +1,7 @@
 //! The test of a loop.
 
-ghost use Rattle.std.specs.Prelude.{◌≡◌, ◌==◌, ◌<◌, ◌+◌, ◌^◌, ℕ, IfOk, get_or, is_some, length, if◌then◌else◌};
+ghost use Rattle.std.specs.Prelude.{◌≡◌, ◌==◌, ◌<◌, ◌+◌, ◌^◌, ℕ, IfOk, get_or, is_some, length};
+ghost use Rattle.std.specs.Prelude.{if◌then◌else◌};
 ghost use Rattle.heylo_formula.specs.PlainTrees.{cond_of};
 ghost use Rattle.heyvl_acts.specs.Places.{in_order};
 ghost use Rattle.heyvl_acts.specs.PlainActs.{acts_of};
@@ -18,7 +19,7 @@ use heyvl_acts::LoopAct;
 use quant_algebra::{Held, holds_at};
 use std::alloc::{AllocError, Global};
 
-/// The step of the test of a loop that stands at this place.
+/// Takes the step of the test of the loop at `place`.
 pub(crate) fn test_step(
     alloc: Global,
     config: &Config,
@@ -28,7 +29,10 @@ pub(crate) fn test_step(
 ) -> Result<Stepped, AllocError>
     requires small { place + 1 + length (in_order (acts_of one.now.body.items)) < 2 ^ 31 }
     requires few { (k : ℕ) → get_or config.now.turns.items k 0 < 2 ^ 31 }
-    ensures { IfOk result (λ stepped. reply_of stepped ≡ replied (is_some (exact_truth (cond_of one.now.guard) config.now.state.items)) (surely (tested (stored config.now) p place (cond_of one.now.guard) one.now.number (acts_of one.now.body.items)))) }
+    ensures { IfOk result (λ stepped. reply_of stepped
+        ≡ replied (is_some (exact_truth (cond_of one.now.guard) config.now.state.items))
+        (surely (tested (stored config.now) p place (cond_of one.now.guard) one.now.number
+        (acts_of one.now.body.items)))) }
 {
     match holds_at(&one.guard, &config.state) {
         Held::Bits => Ok(Stepped::Bits),
@@ -40,8 +44,8 @@ pub(crate) fn test_step(
     }
 }
 
-/// The configuration in which the loop's body comes before its next test. A turn counts where the loop's procedure is the
-/// one that was started.
+/// Returns the configuration in which the loop's body comes before its next test. The iteration
+/// counts only if the loop's procedure is the one that was started.
 fn turned(
     alloc: Global,
     config: &Config,
@@ -51,7 +55,8 @@ fn turned(
 ) -> Result<Config, AllocError>
     requires small { place + 1 + length (in_order (acts_of one.now.body.items)) < 2 ^ 31 }
     requires few { (k : ℕ) → get_or config.now.turns.items k 0 < 2 ^ 31 }
-    ensures { IfOk result (λ next. stored next ≡ turned_at (stored config.now) p place one.now.number (acts_of one.now.body.items)) }
+    ensures { IfOk result (λ next. stored next
+        ≡ turned_at (stored config.now) p place one.now.number (acts_of one.now.body.items)) }
 {
     let turns = turns_after(alloc, config, p, one.number)?;
     let mut items = Vec::new(alloc);
@@ -63,10 +68,13 @@ fn turned(
     Ok(next)
 }
 
-/// The turns after one turn more of a loop of this procedure.
+/// Returns the counts of iterations after one more iteration of the loop `number` of the procedure
+/// `p`.
 fn turns_after(alloc: Global, config: &Config, p: u32, number: u32) -> Result<Vec<u64>, AllocError>
     requires { (k : ℕ) → get_or config.now.turns.items k 0 < 2 ^ 31 }
-    ensures { IfOk result (λ turns. turns.items ≡ (if p == config.now.proc then more_turns number config.now.turns.items else config.now.turns.items)) }
+    ensures { IfOk result (λ turns. turns.items
+        ≡ (if p == config.now.proc then more_turns number config.now.turns.items
+        else config.now.turns.items)) }
 {
     let mut turns = Vec::from_slice(alloc, &config.turns)?;
     if p == config.proc {
@@ -75,7 +83,7 @@ fn turns_after(alloc: Global, config: &Config, p: u32, number: u32) -> Result<Ve
     Ok(turns)
 }
 
-/// One turn more of a loop; the loops are numbered from 1.
+/// Counts one more iteration of the loop `number`. The loops are numbered from 1.
 fn count_turn(turns: &mut Vec<u64>, number: u32)
     requires { (k : ℕ) → get_or turns.old.items k 0 < 2 ^ 31 }
     ensures { turns.new.items ≡ more_turns number turns.old.items }

@@ -1,4 +1,4 @@
-//! The steps of the acts that hold no others.
+//! The steps of acts that contain no other acts.
 
 ghost use Rattle.std.specs.Prelude.{◌≡◌, IfOk, is_some, true};
 ghost use Rattle.heylo_formula.specs.PlainTrees.{form_of, term_of};
@@ -13,7 +13,8 @@ ghost use Rattle.quant_algebra.specs.ExactOperators.{and_then};
 ghost use Rattle.run_machine.specs.BoundedStep.{exact_term, parts_fit};
 ghost use Rattle.run_machine.specs.Names.{stored};
 ghost use Rattle.run_machine.specs.Replies.{reply_of, replied, surely};
-ghost use Rattle.run_machine.specs.StoredMoves.{assigned, behind, collected, going, stored_branches};
+ghost use Rattle.run_machine.specs.StoredMoves.{assigned, behind, collected, going};
+ghost use Rattle.run_machine.specs.StoredMoves.{stored_branches};
 
 use crate::configurations::{Config, Stepped};
 use crate::copies::without_first;
@@ -24,22 +25,27 @@ use heyvl_num::Frac;
 use quant_algebra::{At, value_at};
 use std::alloc::{AllocError, Global};
 
-/// The step that passes over the first item.
+/// Takes the step that skips the first item.
 pub(crate) fn pass_step(alloc: Global, config: &Config) -> Result<Stepped, AllocError>
-    ensures { IfOk result (λ stepped. reply_of stepped ≡ replied true (surely (going (stored config.now) (behind (stored config.now)) config.now.state.items))) }
+    ensures { IfOk result (λ stepped. reply_of stepped
+        ≡ replied true
+        (surely (going (stored config.now) (behind (stored config.now)) config.now.state.items))) }
 {
     let next = without_first(alloc, config)?;
     for_sure(alloc, next)
 }
 
-/// The step of an assignment.
+/// Takes the step of an assignment.
 pub(crate) fn set_step(
     alloc: Global,
     config: &Config,
     x: u32,
     term: &Term,
 ) -> Result<Stepped, AllocError>
-    ensures { IfOk result (λ stepped. reply_of stepped ≡ replied (is_some (exact_term (term_of term.now) config.now.state.items)) (surely (assigned (stored config.now) x (term_value (term_of term.now) (environment config.now.state.items))))) }
+    ensures { IfOk result (λ stepped. reply_of stepped
+        ≡ replied (is_some (exact_term (term_of term.now) config.now.state.items))
+        (surely (assigned (stored config.now) x
+        (term_value (term_of term.now) (environment config.now.state.items))))) }
 {
     match term_at(term, &config.state) {
         None => Ok(Stepped::Bits),
@@ -50,7 +56,7 @@ pub(crate) fn set_step(
     }
 }
 
-/// The configuration in which the variable has the value and the first item is done.
+/// Returns `config` without its first item, in which the variable `x` has the value.
 pub(crate) fn with_value(
     alloc: Global,
     config: &Config,
@@ -64,14 +70,17 @@ pub(crate) fn with_value(
     Ok(next)
 }
 
-/// The step of a draw: one outcome for each part, in their order, those of weight 0 too.
+/// Takes the step of a draw. It has one outcome for each part, in order, also where the weight is
+/// 0.
 pub(crate) fn draw_step(
     alloc: Global,
     config: &Config,
     x: u32,
     parts: &[(Frac, Term)],
 ) -> Result<Stepped, AllocError>
-    ensures { IfOk result (λ stepped. reply_of stepped ≡ replied (parts_fit (parts_of parts.now) config.now.state.items) (stored_branches (stored config.now) x (parts_of parts.now))) }
+    ensures { IfOk result (λ stepped. reply_of stepped
+        ≡ replied (parts_fit (parts_of parts.now) config.now.state.items)
+        (stored_branches (stored config.now) x (parts_of parts.now))) }
 {
     let mut outcomes = Vec::new(alloc);
     for part in parts {
@@ -86,13 +95,18 @@ pub(crate) fn draw_step(
     Ok(limited(outcomes))
 }
 
-/// The step of a reward.
+/// Takes the step of a reward.
 pub(crate) fn reward_step(
     alloc: Global,
     config: &Config,
     form: &Form,
 ) -> Result<Stepped, AllocError>
-    ensures { IfOk result (λ stepped. reply_of stepped ≡ replied (is_some (and_then (exact_value (form_of form.now) config.now.state.items) (λ v. exact_sumᵛ (number_of config.now.reward) v))) (surely (collected (stored config.now) (value (form_of form.now) (environment config.now.state.items) Choices.stop)))) }
+    ensures { IfOk result (λ stepped. reply_of stepped
+        ≡ replied (is_some
+        (and_then (exact_value (form_of form.now) config.now.state.items)
+        (λ v. exact_sumᵛ (number_of config.now.reward) v)))
+        (surely (collected (stored config.now)
+        (value (form_of form.now) (environment config.now.state.items) Choices.stop)))) }
 {
     let collected = match value_at(form, &config.state) {
         At::Bits => return Ok(Stepped::Bits),

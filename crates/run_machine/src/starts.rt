@@ -17,13 +17,17 @@ use heyvl_acts::Typed;
 use heyvl_num::{Ext, Frac};
 use std::alloc::{AllocError, Global};
 
-/// The first configuration of the procedure's body in a state, with no decision made. Of a procedure that isn't there, or
-/// has no body, it has ended.
+/// Returns the first configuration of the body of the procedure `p` in a state, with no decision
+/// made. If there is no such procedure, or it has no body, the configuration has terminated.
 pub fn begin(alloc: Global, typed: &Typed, p: u32, state: &[Val]) -> Result<Config, AllocError>
     requires { MeetsAllRules typed.now }
-    ensures stored { IfOk result (λ first. stored first ≡ stored_begin (procedures_of typed.now) p state.now) }
-    ensures first { IfOk result (λ first. config_of (procedures_of typed.now) (stored first) ≡ begin_of (procedures_of typed.now) p state.now) }
-    ensures config { ReachesPrograms (procedures_of typed.now) p → IsState (procedure_at (procedures_of typed.now) p) state.now → IfOk result (λ first. IsConfig (procedures_of typed.now) (stored first)) }
+    ensures stored { IfOk result
+        (λ first. stored first ≡ stored_begin (procedures_of typed.now) p state.now) }
+    ensures first { IfOk result (λ first. config_of (procedures_of typed.now) (stored first)
+        ≡ begin_of (procedures_of typed.now) p state.now) }
+    ensures config { ReachesPrograms (procedures_of typed.now) p
+        → IsState (procedure_at (procedures_of typed.now) p) state.now
+        → IfOk result (λ first. IsConfig (procedures_of typed.now) (stored first)) }
 {
     let mut items = Vec::new(alloc);
     push_body(&mut items, typed, p)?;
@@ -38,10 +42,11 @@ pub fn begin(alloc: Global, typed: &Typed, p: u32, state: &[Val]) -> Result<Conf
     })
 }
 
-/// The items of a procedure's body are appended.
+/// Appends the items of the body of the procedure `p`.
 pub(crate) fn push_body(items: &mut Vec<Item>, typed: &Typed, p: u32) -> Result<(), AllocError>
     requires { HasFewActs (procedures_of typed.now) }
-    ensures { OnOk result (items.new.items ≡ items.old.items ++ numbered p 0 (acts_in (procedure_at (procedures_of typed.now) p).body)) }
+    ensures { OnOk result (items.new.items ≡ items.old.items
+        ++ numbered p 0 (acts_in (procedure_at (procedures_of typed.now) p).body)) }
 {
     match typed.procs.get(p as usize) {
         None => Ok(()),
@@ -52,7 +57,7 @@ pub(crate) fn push_body(items: &mut Vec<Item>, typed: &Typed, p: u32) -> Result<
     }
 }
 
-/// How many loops the procedure has; none where it isn't there.
+/// Returns the number of loops of the procedure `p`, or 0 if there is none.
 fn loops_of(typed: &Typed, p: u32) -> u32
     ensures { result ≡ (procedure_at (procedures_of typed.now) p).loops }
 {
@@ -62,7 +67,7 @@ fn loops_of(typed: &Typed, p: u32) -> u32
     }
 }
 
-/// No turn of so many loops.
+/// Returns one 0 for each loop.
 fn no_turns(alloc: Global, loops: u32) -> Result<Vec<u64>, AllocError>
     ensures { IfOk result (λ turns. turns.items ≡ replicate loops 0) }
 {

@@ -25,14 +25,18 @@ use quant_algebra::{At, value_at};
 use std::alloc::{AllocError, Global};
 use std::cmp::Ordering;
 
-/// The step of a toss: true with the smaller of the formula's value and 1, then false with the rest, also where a weight is 0.
+/// Takes the step of a toss. The variable becomes true with a weight of the formula's value or 1,
+/// the smaller one, and false with the rest; both outcomes are there also if a weight is 0.
 pub(crate) fn toss_step(
     alloc: Global,
     config: &Config,
     x: u32,
     form: &Form,
 ) -> Result<Stepped, AllocError>
-    ensures { IfOk result (λ stepped. reply_of stepped ≡ replied (toss_fits (form_of form.now) config.now.state.items) (stored_branches (stored config.now) x (toss_parts (form_of form.now) (environment config.now.state.items)))) }
+    ensures { IfOk result (λ stepped. reply_of stepped
+        ≡ replied (toss_fits (form_of form.now) config.now.state.items)
+        (stored_branches (stored config.now) x
+        (toss_parts (form_of form.now) (environment config.now.state.items)))) }
 {
     match weight_at(form, &config.state) {
         None => Ok(Stepped::Bits),
@@ -43,7 +47,7 @@ pub(crate) fn toss_step(
     }
 }
 
-/// The variable true with the first weight, then false with the second.
+/// Returns the two outcomes: true with the weight `heads`, false with the weight `tails`.
 fn two_sides(
     alloc: Global,
     config: &Config,
@@ -51,7 +55,11 @@ fn two_sides(
     heads: Frac,
     tails: Frac,
 ) -> Result<Stepped, AllocError>
-    ensures { IfOk result (λ stepped. reply_of stepped ≡ replied true (stored_branches (stored config.now) x ((heads, term.truth (condition.constant true)) ∷ (tails, term.truth (condition.constant false)) ∷ []))) }
+    ensures { IfOk result (λ stepped. reply_of stepped
+        ≡ replied true
+        (stored_branches (stored config.now) x
+        ((heads, term.truth (condition.constant true))
+        ∷ (tails, term.truth (condition.constant false)) ∷ []))) }
 {
     let mut outcomes = Vec::new(alloc);
     outcomes.push((heads, with_value(alloc, config, x, Val::Truth(true))?))?;
@@ -59,10 +67,11 @@ fn two_sides(
     Ok(limited(outcomes))
 }
 
-/// The smaller of the form's value and 1, or None where a number that is needed doesn't fit.
+/// Returns the smaller of the formula's value and 1, or `None` if a number on the way overflows.
 fn weight_at(form: &Form, state: &[Val]) -> Option<Frac>
     ensures exact { result ≡ exact_weight (form_of form.now) state.now }
-    ensures meaning { IfSome result (λ w. w ≡ toss_weight (form_of form.now) (environment state.now)) }
+    ensures meaning { IfSome result
+        (λ w. w ≡ toss_weight (form_of form.now) (environment state.now)) }
 {
     match value_at(form, state) {
         At::Value(value) => at_most_one(&value),
@@ -70,7 +79,8 @@ fn weight_at(form: &Form, state: &[Val]) -> Option<Frac>
     }
 }
 
-/// The smaller of the number and 1, or None where their cross products don't fit.
+/// Returns the smaller of the value and 1, or `None` if a cross product of the comparison
+/// overflows.
 fn at_most_one(value: &Ext) -> Option<Frac>
     ensures exact { result ≡ option_map finite_part (exact_minᵛ (value_of value.now) oneᵛ) }
     ensures meaning { IfSome result (λ w. w ≡ finite_part (minᵛ (value_of value.now) oneᵛ)) }
