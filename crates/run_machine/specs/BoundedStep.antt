@@ -1,6 +1,7 @@
--- The step as the program makes it: there is a bound on numbers, by the calls of the fractions that the step needs, and a
--- bound on the values of all frames and the state. This project's own.
-use Rattle.std.specs.Prelude.{◌+◌, ℕ, Bool, true, false, ◌&&◌, ◌||◌, List, [], ◌∷◌, Option, Some, None, option_map, is_some, map, length, nat_lt, if◌then◌else◌}
+-- The step as the program makes it, within two limits: on the numbers that are computed, and on the
+-- number of values in the state and all frames. This project's own.
+use Rattle.std.specs.Prelude.{◌+◌, ℕ, Bool, true, false, ◌&&◌, ◌||◌, List, [], ◌∷◌, Option, Some}
+use Rattle.std.specs.Prelude.{None, option_map, is_some, map, length, nat_lt, if◌then◌else◌}
 use Rattle.heyvl_num.specs.Rational.{Rational, oneʳ}
 use Rattle.heyvl_num.specs.Value.{oneᵛ}
 use Rattle.heyvl_num.specs.Exact.{exact_difference}
@@ -19,49 +20,50 @@ use Rattle.run_machine.specs.Configurations.{Item, Frame, Config, Outcomes}
 use Rattle.run_machine.specs.Step.{Decision, step}
 use Rattle.run_machine.specs.Names.{stored, config_of}
 
--- The value of a term, where each number that is needed fits.
+-- The value of a term, or nothing if a number on the way overflows.
 abbrev pub exact_term : Term → List Val → Option Val
 exact_term (Term.truth g) s = option_map Truth (exact_truth g s)
 exact_term (Term.number f) s = option_map (λ v. Num (finite_part v)) (exact_value f s)
 
--- Whether each number that the values of these terms need fits.
+-- Whether the terms have values: no number on the way overflows.
 abbrev pub terms_fit : List Term → List Val → Bool
 terms_fit [] s = true
 terms_fit (e ∷ es) s = is_some (exact_term e s) && terms_fit es s
 
--- Whether each number that the terms of a draw's parts need fits.
+-- Whether the terms of a draw's parts have values: no number on the way overflows.
 abbrev pub parts_fit : List (Rational × Term) → List Val → Bool
 parts_fit [] s = true
 parts_fit (q ∷ qs) s = is_some (exact_term q.1 s) && parts_fit qs s
 
--- The smaller of a formula's value and 1: one comparison behind the value.
+-- The smaller of a formula's value and 1: after the value, one comparison is computed.
 abbrev pub exact_weight : Form → List Val → Option Rational
 exact_weight f s = and_then (exact_value f s) (λ v. option_map finite_part (exact_minᵛ v oneᵛ))
 
--- The weight of a toss, and what is left of 1: one difference.
+-- Whether the weight of a toss and its difference to 1 have values.
 abbrev pub toss_fits : Form → List Val → Bool
 toss_fits f s = is_some (and_then (exact_weight f s) (λ w. exact_difference oneʳ w))
 
--- Whether a truth value is there and true, or there and the rest holds.
+-- `true_or t rest`: `t` is known and true, or `t` is known and `rest` is true.
 abbrev pub true_or : Option Bool → Bool → Bool
 true_or (Some true) rest = true
 true_or (Some false) rest = rest
 true_or None rest = false
 
--- The guards up to the first that holds.
+-- Whether the guards up to the first that holds have values. Later guards are not evaluated.
 abbrev pub guards_fit : Arms → List Val → Bool
 guards_fit Arms.no_arm s = true
 guards_fit (Arms.arm g b more) s = true_or (exact_truth g s) (guards_fit more s)
 
--- Whether each number that the act's step needs fits: the term of an assignment, the parts of a draw, the weights of a toss,
--- the guards of an if up to the first that holds, the guard of a loop, the arguments of a call, and a reward and its sum with
--- the reward so far.
+-- Whether no number overflows in the step of the act: in the term of an assignment, the terms of a
+-- draw, the weights of a toss, the guards of an if up to the first that holds, the guard of a loop,
+-- the arguments of a call, or a reward and its sum with the reward so far.
 abbrev pub act_fits : Act → Config → Bool
 act_fits (Act.set x t span) c = is_some (exact_term t c.state)
 act_fits (Act.draw x qs span) c = parts_fit qs c.state
 act_fits (Act.toss x f span) c = toss_fits f c.state
 act_fits (Act.any x up ty span) c = true
-act_fits (Act.reward f span) c = is_some (and_then (exact_value f c.state) (λ v. exact_sumᵛ c.reward v))
+act_fits (Act.reward f span) c =
+    is_some (and_then (exact_value f c.state) (λ v. exact_sumᵛ c.reward v))
 act_fits (Act.ifs arms e span) c = guards_fit arms c.state
 act_fits (Act.pick up a b span) c = true
 act_fits (Act.check kind f span) c = true
@@ -69,24 +71,24 @@ act_fits (Act.validate co span) c = true
 act_fits (Act.loop h b) c = is_some (exact_truth h.guard c.state)
 act_fits (Act.call xs p es span) c = terms_fit es c.state
 
--- Whether each number that the item's step needs fits.
+-- Whether no number overflows in the step of the item.
 abbrev pub item_fits : Item → Config → Bool
 item_fits (Item.act a) c = act_fits a c
 item_fits (Item.turn h b) c = is_some (exact_truth h.guard c.state)
 item_fits (Item.out x ty) c = true
 item_fits Item.back c = true
 
--- Whether each number that the step of the first item needs fits. No item needs none.
+-- Whether no number overflows in the step of the first item. Without items, none does.
 abbrev pub items_fit : List Item → Config → Bool
 items_fit [] c = true
 items_fit (i ∷ is) c = item_fits i c
 
--- The values of the callers' states and of the state.
+-- The number of values in the states of the frames.
 abbrev pub frame_values : List Frame → ℕ
 frame_values [] = 0
 frame_values (f ∷ fs) = length f.state + frame_values fs
 
--- The values of a configuration: those of its state, and of the states of its callers.
+-- The number of values of a configuration: in its state and in the states of its callers.
 abbrev pub values_in : Config → ℕ
 values_in c = length c.state + frame_values c.frames
 
@@ -95,33 +97,35 @@ abbrev pub any_deep : Outcomes → Bool
 any_deep [] = false
 any_deep (x ∷ xs) = nat_lt 512 (values_in x.1) || any_deep xs
 
--- What a step may give.
+-- The result of a step: its outcomes, `deep` if one of them has more than 512 values, or `bits` if
+-- a number overflows.
 pub data Answer : Type 0 where
   next : Outcomes → Answer
   deep : Answer
   bits : Answer
 
--- These outcomes, where none has more than 512 values.
+-- The outcomes, or `deep` if one of them has more than 512 values.
 abbrev pub limited : Outcomes → Answer
 limited cs = if any_deep cs then Answer.deep else Answer.next cs
 
--- The outcomes within the limit of values, where the numbers fit; otherwise the answer that one does not.
+-- The outcomes within the limit of values if `fits`, otherwise `bits`.
 abbrev pub bounded : Bool → Outcomes → Answer
 bounded fits cs = if fits then limited cs else Answer.bits
 
--- The step, where all its numbers and values fit; the numbers come first.
+-- The step within both limits. If both are exceeded, the result is `bits`.
 abbrev pub bounded_step : List TypedProcedure → Config → Decision → Answer
 bounded_step ps c d = bounded (items_fit c.items c) (step ps c d)
 
--- The outcome of the definition that an outcome of the program stands for.
+-- The outcome of a run that an outcome of the program represents: the same weight, with the
+-- configuration that its stored configuration represents.
 abbrev pub outcome_of : List TypedProcedure → Rational × C.Config → Rational × Config
 outcome_of ps x = (x.0, config_of ps (stored x.1))
 
--- The outcomes of the definition that those of the program stand for, in their order.
+-- The outcomes of a run that outcomes of the program represent, in their order.
 abbrev pub outcomes_of : List TypedProcedure → List (Rational × C.Config) → Outcomes
 outcomes_of ps xs = map (outcome_of ps) xs
 
--- What the program's answer stands for.
+-- The result of a step that the result of the program's step represents.
 abbrev pub answer_of : List TypedProcedure → Stepped → Answer
 answer_of ps (Next outcomes) = Answer.next (outcomes_of ps outcomes.items)
 answer_of ps Deep = Answer.deep

@@ -1,6 +1,6 @@
--- What a configuration of the program meets: its items name acts and outputs of the procedures under way, and its states have
--- values of the right types. Each step keeps it.
--- Source: this project's own.
+-- The condition on the program's configurations: their items name acts and outputs of the
+-- procedures that run, and their states have values of the right types. Each step preserves it.
+-- This project's own.
 use Rattle.std.specs.Prelude.{◌≡◌, ◌≤◌, ◌<◌, ◌^◌, ℕ, List, [], ◌∷◌, ◌++◌, length, reverse}
 use Rattle.heyvl_places.specs.declared.spans.Span.{Span}
 use Rattle.heylo_formula.specs.Formula.{Term}
@@ -13,12 +13,13 @@ use Rattle.run_machine.specs.declared.configurations.Item.TheVariants.{Do, Turn,
 use Rattle.run_machine.specs.Bound.{IsState}
 use Rattle.run_machine.specs.Names.{Names, Numbered, Lists, Stored}
 
--- The procedure is a program, and so is each that it reaches by calls.
+-- The procedure `q` is a program, and so is each procedure that it reaches by calls.
 pub record ReachesPrograms (ps : List TypedProcedure) (q : ℕ) : Type 0 where
   pub itself : IsProgram (procedure_at ps q)
   pub reached : (r : ℕ) → Reaches ps q r → IsProgram (procedure_at ps r)
 
--- A run takes the act: it is no check and no validation, and a procedure that it calls reaches programs alone.
+-- A run may take the act: it is no check and no validation, and a procedure that it calls is a
+-- program and reaches only programs.
 abbrev pub CanRun : List TypedProcedure → Act → Type 0
 CanRun ps (Act.check kind f span) = ⊥
 CanRun ps (Act.validate co span) = ⊥
@@ -32,32 +33,33 @@ CanRun ps (Act.ifs arms e span) = Unit {0}
 CanRun ps (Act.pick up a b span) = Unit {0}
 CanRun ps (Act.loop h b) = Unit {0}
 
--- The place names an act of the procedure n that a run takes, and so each act inside it.
+-- `place` names an act of the procedure `n`, and a run may take this act and each act in it.
 pub record NamesAct (ps : List TypedProcedure) (n place : ℕ) : Type 0 where
   pub act : Act
   pub named : Names ps n place act
   pub runs : Each (CanRun ps) (act ∷ inside act)
 
--- The place names such a loop.
+-- `place` names a loop of the procedure `n`, and a run may take each act of its body.
 pub record NamesLoop (ps : List TypedProcedure) (n place : ℕ) : Type 0 where
   pub head : Head
   pub body : Acts
   pub named : Names ps n place (Act.loop head body)
   pub runs : Each (CanRun ps) (in_order body)
 
--- The number is that of an output.
+-- `x` is the number of an output of `p`.
 pub record IsOutput (p : TypedProcedure) (x : ℕ) : Type 0 where
   pub no_input : length p.inputs ≤ x
   pub below : x < length (p.inputs ++ p.outputs)
 
--- The item names an act, a loop or an output of the procedure n.
+-- The item names an act, a loop or an output of the procedure `n`. It is no return.
 abbrev pub IsItemOf : List TypedProcedure → ℕ → Numbered → Type 0
 IsItemOf ps n (Do p place) = (p ≡ n) × NamesAct ps n place
 IsItemOf ps n (Turn p place) = (p ≡ n) × NamesLoop ps n place
 IsItemOf ps n (Out p x) = (p ≡ n) × IsOutput (procedure_at ps n) x
 IsItemOf ps n (Back p place) = ⊥
 
--- The items of the procedure n, which was called: the last one returns to a call of n in the procedure m, and no other returns.
+-- `items` are the items of the procedure `n`, which `m` called: the last one is the return to the
+-- call in `m`, and there is no other return.
 pub record IsCalled (ps : List TypedProcedure) (m n : ℕ) (items : List Numbered) : Type 0 where
   pub front : List Numbered
   pub place : ℕ
@@ -69,21 +71,25 @@ pub record IsCalled (ps : List TypedProcedure) (m n : ℕ) (items : List Numbere
   pub runs : ReachesPrograms ps n
   pub belong : Each (IsItemOf ps n) front
 
--- The items of the procedure n with its state, above those of its callers, the last one first. The procedure that was started
--- has no caller.
+-- `AreLists ps start n items s frames`: `items` and `s` are items and a state of the running
+-- procedure `n`. So are those of each caller in `frames`, the last caller first; the first caller
+-- runs the procedure `start`. Without callers, `n` is `start`.
 abbrev pub AreLists : List TypedProcedure → ℕ → ℕ → List Numbered → List Val → List Lists → Type 0
-AreLists ps start n items s [] = (n ≡ start) × (Each (IsItemOf ps n) items × IsState (procedure_at ps n) s)
-AreLists ps start n items s (f ∷ fs) = (m : ℕ) × (IsCalled ps m n items × (IsState (procedure_at ps n) s × AreLists ps start m f.0 f.1 fs))
+AreLists ps start n items s [] =
+    (n ≡ start) × (Each (IsItemOf ps n) items × IsState (procedure_at ps n) s)
+AreLists ps start n items s (f ∷ fs) = (m : ℕ)
+    × (IsCalled ps m n items × (IsState (procedure_at ps n) s × AreLists ps start m f.0 f.1 fs))
 
--- A configuration of these procedures: its items and states are those of the procedures that were called, and it counts the turns of each loop.
+-- The condition on a configuration: its items and states are those of the procedure that was
+-- started and of the procedures called since, and it counts the iterations of each loop.
 pub record IsConfig (ps : List TypedProcedure) (c : Stored) : Type 0 where
-  -- the procedure that runs
+  -- The procedure that runs.
   pub running : ℕ
   pub lists : AreLists ps c.procedure running c.items c.state (reverse c.frames)
-  -- one entry for each loop
+  -- One count for each loop of the procedure that was started.
   pub turns : length c.turns ≡ (procedure_at ps c.procedure).loops
 
--- The turns and the decisions have room to grow.
+-- The counts of iterations and of decisions are below 2^31, so that a step does not overflow them.
 pub record HasRoom (c : Stored) : Type 0 where
   pub turns : Each (λ t. t < 2 ^ 31) c.turns
   pub made : c.made < 2 ^ 31

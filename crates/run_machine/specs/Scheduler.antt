@@ -1,15 +1,15 @@
--- Schedulers: a tree with a decision for each step, and below it a tree for each outcome of the step. So a scheduler is
--- deterministic and may depend on the whole history of a run. Where a tree is missing, no decision is made.
--- Source: this project's own.
+-- Schedulers: a tree has a decision for the next step, and below it a tree for each outcome of this
+-- step. So a scheduler is deterministic and may depend on the whole history of a run. Where a tree
+-- is missing, no decision is made. This project's own.
 use Rattle.run_machine.specs.Step.{Decision}
 
 mutual
-  -- A scheduler: its decision, and how it goes on after each outcome.
+  -- A scheduler: its decision, and how it continues after each outcome.
   pub data Tree : Type 0 where
     leaf : Tree
     node : Decision → Forest → Tree
 
-  -- Schedulers, one for each outcome.
+  -- The schedulers for a list of outcomes.
   pub data Forest : Type 0 where
     no_trees : Forest
     trees : Tree → Forest → Forest
@@ -29,7 +29,7 @@ abbrev pub first : Forest → Tree
 first Forest.no_trees = Tree.leaf
 first (Forest.trees t ts) = t
 
--- The trees for the outcomes behind the first.
+-- The trees for the outcomes after the first.
 abbrev pub rest : Forest → Forest
 rest Forest.no_trees = Forest.no_trees
 rest (Forest.trees t ts) = ts

@@ -1,4 +1,4 @@
--- Procedures whose numbers are in range and whose variables a u32 can count. Private functions alone need this.
+-- The outputs of `p` are among its variables, and a u32 can count these.
 use Rattle.std.specs.Prelude.{◌≤◌, ◌<◌, ◌+◌, ◌^◌, length}
 use Rattle.heyvl_acts.specs.declared.typed_trees.TProc.{TProc}
 
