@@ -15,7 +15,7 @@ use Rattle.heyvl_acts.proofs.exported.PlainActsAre.{if_act, pick_act, loop_act}
 use Rattle.run_machine.specs.declared.configurations.Item.TheVariants.{Do}
 use Rattle.run_machine.specs.Names.{numbered}
 
--- How many acts there are from the k-th of a list on.
+-- The number of acts, with the acts in them, from index `k` of a list on.
 abbrev pub size_from : List A.Act → ℕ → ℕ
 size_from acts k = length (in_order (acts_of (drop k acts)))
 
@@ -43,7 +43,6 @@ pick_size a up b d span is = ap (λ x. length (inside (act_of x))) is ∙ ap (λ
 pub loop_size : (a : A.Act) (l : Box L.LoopAct Global) → a ≡ A.Loop l → length (inside (act_of a)) ≡ length (in_order (acts_of l.value.body.items))
 loop_size a l is = ap (λ x. length (inside (act_of x))) is ∙ ap (λ x. length (inside x)) (loop_act l)
 
--- The items of the rest of a block.
 pub numbered_next : (p place : ℕ) (acts : List A.Act) (k : ℕ) (x : A.Act) → k < length acts → x ≡ get_or acts k x → numbered p place (acts_of (drop k acts)) ≡ Do p place ∷ numbered p (place + suc (length (inside (act_of x)))) (acts_of (drop (k + 1) acts))
 numbered_next p place acts k x lt is = at_drop_more (λ l. numbered p place (acts_of l)) acts k x lt ∙ ap (λ y. Do p place ∷ numbered p (place + suc (length (inside (act_of y)))) (acts_of (drop (k + 1) acts))) (sym is)
 

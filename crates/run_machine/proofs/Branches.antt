@@ -21,7 +21,6 @@ use Rattle.run_machine.specs.StoredMoves.{taken_place}
 abbrev pub Arm : Type 0
 Arm = C.Cond × Vec A.Act Global
 
--- Whether the guards fit, by the next arm's guard.
 guards_next : (s : List Val) (arms : List Arm) (k : ℕ) (x : Arm) (b : Bool) → k < length arms → x ≡ get_or arms k x → Some b ≡ exact_truth (cond_of x.0) s → guards_fit (arms_of (drop k arms)) s ≡ true_or (Some b) (guards_fit (arms_of (drop (k + 1) arms)) s)
 guards_next s arms k x b lt is h = at_drop_more (λ l. guards_fit (arms_of l) s) arms k x lt ∙ ap (λ y. true_or (exact_truth (cond_of y.0) s) (guards_fit (arms_of (drop (k + 1) arms)) s)) (sym is) ∙ ap (λ o. true_or o (guards_fit (arms_of (drop (k + 1) arms)) s)) (sym h)
 
@@ -34,14 +33,12 @@ guards_found s arms k x lt is h = guards_next s arms k x true lt is h
 pub guards_none : (s : List Val) (arms : List Arm) (k : ℕ) → length arms ≤ k → guards_fit (arms_of (drop k arms)) s ≡ true
 guards_none s arms k over = ap (λ l. guards_fit (arms_of l) s) (drop_all k arms over)
 
--- The block that is taken, by whether the next arm's guard holds.
 pub block_next : (e : Acts) (s : Env) (arms : List Arm) (k : ℕ) (x : Arm) (b : Bool) → k < length arms → x ≡ get_or arms k x → b ≡ holds (cond_of x.0) s Choices.stop → taken (arms_of (drop k arms)) e s ≡ (if b then acts_of x.1.items else taken (arms_of (drop (k + 1) arms)) e s)
 block_next e s arms k x b lt is h = at_drop_more (λ l. taken (arms_of l) e s) arms k x lt ∙ ap (λ y. if holds (cond_of y.0) s Choices.stop then acts_of y.1.items else taken (arms_of (drop (k + 1) arms)) e s) (sym is) ∙ ap (λ t. if t then acts_of x.1.items else taken (arms_of (drop (k + 1) arms)) e s) (sym h)
 
 pub block_none : (e : Acts) (s : Env) (arms : List Arm) (k : ℕ) → length arms ≤ k → taken (arms_of (drop k arms)) e s ≡ e
 block_none e s arms k over = ap (λ l. taken (arms_of l) e s) (drop_all k arms over)
 
--- Its place.
 pub place_next : (n : ℕ) (s : Env) (arms : List Arm) (k : ℕ) (x : Arm) (b : Bool) → k < length arms → x ≡ get_or arms k x → b ≡ holds (cond_of x.0) s Choices.stop → taken_place n (arms_of (drop k arms)) s ≡ (if b then n else taken_place (n + length (in_order (acts_of x.1.items))) (arms_of (drop (k + 1) arms)) s)
 place_next n s arms k x b lt is h = at_drop_more (λ l. taken_place n (arms_of l) s) arms k x lt ∙ ap (λ y. if holds (cond_of y.0) s Choices.stop then n else taken_place (n + length (in_order (acts_of y.1.items))) (arms_of (drop (k + 1) arms)) s) (sym is) ∙ ap (λ t. if t then n else taken_place (n + length (in_order (acts_of x.1.items))) (arms_of (drop (k + 1) arms)) s) (sym h)
 

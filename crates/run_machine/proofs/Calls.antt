@@ -1,4 +1,4 @@
--- Calls and returns of stored configurations, as the definition makes them.
+-- Calls and returns of stored configurations are those of the definition.
 use Rattle.std.proofs.Common.{◌≡◌, ℕ, ◌+◌, ◌≤◌, append_assoc, refl, ap, ap₂, sym, subst, ◌∙◌, arith, List, [], ◌∷◌, ◌++◌, length, reverse}
 use Rattle.std.proofs.lemmas.List.{length-append, reverse-append, reverse-reverse}
 use Rattle.std.proofs.lemmas.Option.{none-some}
@@ -59,7 +59,7 @@ outs_belong ps q n (suc k) h l = ((refl, record { no_input = h; below = omega (a
 
 -- ---- Calls
 
--- What a called procedure does.
+-- The items of a called procedure.
 abbrev callee_list : List TypedProcedure → ℕ → List Numbered
 callee_list ps q = out_items q (length (procedure_at ps q).inputs) (length (procedure_at ps q).outputs) ++ numbered q 0 (acts_in (procedure_at ps q).body)
 
@@ -103,7 +103,7 @@ same_item i j is js h = cc
 same_rest : (i j : Numbered) (is js : List Numbered) → i ∷ is ≡ j ∷ js → is ≡ js
 same_rest i j is js h = cc
 
--- A return is the last item of a called procedure's list: it names the call.
+-- A return is the last item of a called procedure, and names its call.
 record Last (ps : List TypedProcedure) (m n p place : ℕ) (rest : List Numbered) (q : IsCalled ps m n (Back p place ∷ rest)) : Type 0 where
   alone : rest ≡ []
   caller : m ≡ p
@@ -133,7 +133,8 @@ same_targets xs ys q r es fs s t h = cc
 same_callee : (xs ys : List ℕ) (q r : ℕ) (es fs : List Term) (s t : Span) → Some (Act.call xs q es s) ≡ Some (Act.call ys r fs t) → q ≡ r
 same_callee xs ys q r es fs s t h = cc
 
--- What is known at a return from a call of r: r runs, the place is in the procedure p, whose list is that of the last caller.
+-- What holds at a return from a call of `r`: the procedure `r` runs, and the place is in `p`, whose
+-- items are those of the last caller.
 pub record Returning (ps : List TypedProcedure) (start p r : ℕ) (rest : List Numbered) (s : List Val) (f : Lists) (fs : List Lists) : Type 0 where
   pub alone : rest ≡ []
   pub state : IsState (procedure_at ps r) s

@@ -1,4 +1,4 @@
--- How many values a configuration of the program has.
+-- The number of values of a configuration of the program.
 use Rattle.std.proofs.Common.{◌≡◌, ℕ, Bool, true, false, nat_lt, ◌||◌, ◌+◌, ◌≤◌, ◌<◌, refl, ap, sym, ◌∙◌, arith, List, [], ◌∷◌, ◌++◌, length, map, reverse, drop, get_or}
 use Rattle.std.proofs.lemmas.List.{at_drop_more, drop_all, reverse-append}
 use Rattle.heyvl_acts.specs.Acts.{TypedProcedure}
@@ -24,7 +24,7 @@ reverse_values (f ∷ fs) = ap list_values (reverse-append (f ∷ []) fs) ∙ (a
 pub all_values : (ps : List TypedProcedure) (c : Stored) → values_in (config_of ps c) ≡ stored_values c
 all_values ps c = ap (λ n. length c.state + n) (callers_values ps c.items (reverse c.frames) ∙ reverse_values c.frames)
 
--- The values of the frames from the k-th on.
+-- The number of values of the frames from index `k` on.
 abbrev pub values_from : List F.Frame → ℕ → ℕ
 values_from fs k = list_values (map lists_of (drop k fs))
 
@@ -40,7 +40,6 @@ more_than v h = grind arith
 pub at_most : (v : ℕ) → v ≤ 512 → false ≡ nat_lt 512 v
 at_most v h = grind arith
 
--- Whether one of the outcomes from the k-th on has too many values.
 pub large_next : (xs : List (Rational × C.Config)) (k : ℕ) (x : Rational × C.Config) → k < length xs → x ≡ get_or xs k x → any_large (stored_outcomes (drop k xs)) ≡ (nat_lt 512 (stored_values (stored x.1)) || any_large (stored_outcomes (drop (k + 1) xs)))
 large_next xs k x lt is = at_drop_more (λ l. any_large (stored_outcomes l)) xs k x lt ∙ ap (λ y. nat_lt 512 (stored_values (stored y.1)) || any_large (stored_outcomes (drop (k + 1) xs))) (sym is)
 

@@ -19,7 +19,6 @@ append_maps : (xs ys : List (Rational × C.Config)) → stored_outcomes (xs ++ y
 append_maps [] ys = refl
 append_maps (x ∷ xs) ys = ap (λ l. stored_outcome x ∷ l) (append_maps xs ys)
 
--- One part more of a draw.
 pub parts_next : (s : List Val) (parts : List (Rational × T.Term)) (k : ℕ) (part : Rational × T.Term) (v : Val) → k < length parts → part ≡ get_or parts k part → Some v ≡ exact_term (term_of part.1) s → parts_fit (parts_of (drop k parts)) s ≡ parts_fit (parts_of (drop (k + 1) parts)) s
 parts_next s parts k part v lt is h = at_drop_more (λ l. parts_fit (parts_of l) s) parts k part lt ∙ ap (λ p. is_some (exact_term (term_of p.1) s) && parts_fit (parts_of (drop (k + 1) parts)) s) (sym is) ∙ ap (λ o. is_some o && parts_fit (parts_of (drop (k + 1) parts)) s) (sym h)
 

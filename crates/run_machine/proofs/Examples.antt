@@ -81,7 +81,7 @@ coin_before_its_flip : sum_after 0 (coin ∷ []) (Truth true ∷ []) coin.post T
 unfolding runs weighted_sum scaled halfʳ ratio gcd gcd_steps zeroʳ oneʳ zeroᵛ oneᵛ ◌+ʳ◌ ◌*ʳ◌ ◌-ʳ◌ ◌+ᵛ◌ ◌*ᵛ◌ infinite_times is_zeroʳ leqʳ leqᵛ compareʳ
 coin_before_its_flip = refl
 
--- ---- A toss of one number where a Bool holds and of another where not
+-- ---- A toss with one probability if a Bool holds, and another if it does not
 
 abbrev lot : Form → Form → TypedProcedure
 lot a b = procedure (Ty.Bool ∷ []) (Ty.Bool ∷ []) [] (Form.select (Cond.flag 1) (number 1) (number 4)) (Act.toss 1 (Form.select (Cond.flag 0) a b) place ∷ [])
@@ -202,7 +202,7 @@ ill_typed_is_false : sum_after 2 (guess ∷ []) guess_start guess.post (after_fl
 unfolding runs weighted_sum scaled halfʳ ratio gcd gcd_steps zeroʳ oneʳ zeroᵛ oneᵛ ◌+ʳ◌ ◌*ʳ◌ ◌-ʳ◌ ◌+ᵛ◌ ◌*ᵛ◌ infinite_times is_zeroʳ leqʳ leqᵛ compareʳ
 ill_typed_is_false = refl
 
--- ---- A call with two outputs: b, a = pair(3), where pair gives x and x + 1; the post is a + 10 * b
+-- ---- A call with two outputs: b, a = pair(3), where pair gives x and x + 1; the post is a + 10*b
 
 abbrev pair : TypedProcedure
 pair = procedure (Ty.UInt ∷ []) (Ty.UInt ∷ Ty.UInt ∷ []) [] (number 0) (Act.set 1 (Term.number (Form.variable 0)) place ∷ Act.set 2 (plus_one 0) place ∷ [])
@@ -218,7 +218,8 @@ call_with_two_outputs : sum_after 6 (caller ∷ pair ∷ []) (uint 0 ∷ uint 0 
 unfolding runs weighted_sum scaled halfʳ ratio gcd gcd_steps zeroʳ oneʳ zeroᵛ oneᵛ ◌+ʳ◌ ◌*ʳ◌ ◌-ʳ◌ ◌+ᵛ◌ ◌*ᵛ◌ infinite_times is_zeroʳ leqʳ leqᵛ compareʳ
 call_with_two_outputs = refl
 
--- ---- Recursion: y counts down from n, two calls deep; each call makes one turn of the loop before it
+-- ---- Recursion: y counts down from n, two calls deep; each call makes one iteration of the loop
+-- before it
 
 abbrev once : Acts
 once = acts (Act.set 2 (truth false) place ∷ [])
@@ -234,7 +235,7 @@ recursion_under_way : sum_after 11 (down ∷ []) (uint 2 ∷ uint 0 ∷ Truth fa
 unfolding runs weighted_sum scaled halfʳ ratio gcd gcd_steps zeroʳ oneʳ zeroᵛ oneᵛ ◌+ʳ◌ ◌*ʳ◌ ◌-ʳ◌ ◌+ᵛ◌ ◌*ᵛ◌ infinite_times is_zeroʳ leqʳ leqᵛ compareʳ negʳ monusᵛ
 recursion_under_way = refl
 
--- ---- A loop with an if, in a called procedure: its turn isn't counted, its rewards are
+-- ---- A loop with an if, in a called procedure: its iteration is not counted, its rewards are
 
 abbrev worker : TypedProcedure
 worker = procedure [] [] (Ty.Bool ∷ []) (number 0) (Act.set 0 (truth true) place ∷ Act.loop (head 1 (Cond.flag 0)) (acts (Act.ifs (Arms.arm (Cond.flag 0) (acts (Act.set 0 (truth false) place ∷ [])) Arms.no_arm) (acts []) place ∷ Act.reward (number 5) place ∷ [])) ∷ [])
@@ -254,7 +255,7 @@ own_loop_is_counted : turns_after 8 (worker ∷ []) (Truth false ∷ []) 1 Tree.
 unfolding runs weighted_sum scaled halfʳ ratio gcd gcd_steps zeroʳ oneʳ zeroᵛ oneᵛ ◌+ʳ◌ ◌*ʳ◌ ◌-ʳ◌ ◌+ᵛ◌ ◌*ᵛ◌ infinite_times is_zeroʳ leqʳ leqᵛ compareʳ
 own_loop_is_counted = refl
 
--- A loop of a recursive call: each of the two calls makes one turn
+-- A loop around a recursive call: each of the two calls makes one iteration
 
 abbrev turning : TypedProcedure
 turning = procedure (Ty.Bool ∷ []) [] (Ty.Bool ∷ []) (number 0) (Act.set 1 (truth true) place ∷ Act.loop (head 1 (Cond.flag 1)) (acts (Act.set 1 (truth false) place ∷ [])) ∷ Act.ifs (Arms.arm (Cond.flag 0) (acts (Act.call [] 0 (truth false ∷ []) place ∷ [])) Arms.no_arm) (acts []) place ∷ [])

@@ -1,4 +1,4 @@
--- The first configuration of a program meets the condition.
+-- The first configuration of a program satisfies the condition on configurations.
 use Rattle.std.proofs.Common.{◌≡◌, ℕ, refl, ap, sym, subst, ◌∙◌, List, [], length, replicate, reverse}
 use Rattle.std.proofs.lemmas.List.{length-replicate}
 use Rattle.heyvl_num.specs.Value.{Value, zeroᵛ}

@@ -1,4 +1,4 @@
--- What the laws of steps and runs ask, at a fair coin.
+-- The requirements of the laws of steps and runs, at a fair coin.
 use Rattle.std.proofs.Common.{◌≡◌, ◌∙◌, ap, refl, Bool, true, false, List, [], ◌∷◌, Some, arith}
 use Rattle.heyvl_num.specs.Rational.{ratio, zeroʳ, oneʳ, halfʳ, leqʳ, ◌≤ʳ◌, ◌+ʳ◌}
 use Rattle.heyvl_num.specs.Value.{Value, oneᵛ, zeroᵛ}
@@ -30,7 +30,7 @@ truth b = Term.truth (Cond.constant b)
 abbrev flip : Act
 flip = Act.draw 0 ((halfʳ, truth true) ∷ (halfʳ, truth false) ∷ []) place
 
--- A fair coin, whose pre is this formula.
+-- A fair coin with the pre `pre`.
 abbrev coin : Form → TypedProcedure
 coin pre = record nobody { outputs = record { name = 1 ∷ []; ty = Ty.Bool } ∷ []; pre = pre; post = Form.iverson (Cond.flag 0); body = Some (Acts.next flip Acts.done) }
 
@@ -78,11 +78,11 @@ one_held = (refl, refl)
 abbrev file : List TypedProcedure
 file = coins (Form.number oneᵛ)
 
--- The weights of the draw add up to 1, as `StepsWeighOne` asks.
+-- The weights of the draw have the sum 1, as `StepsWeighOne` requires.
 flip_weighs_one : ItemWeighsOne (Item.act flip)
 flip_weighs_one = halves_weigh_one
 
--- A number is no Boolean, as `IllTypedIsDefault` asks.
+-- A number is no Boolean, as `IllTypedIsDefault` requires.
 number_is_ill_typed : has Ty.Bool (Num halfʳ) ≡ false
 number_is_ill_typed = refl
 
@@ -90,10 +90,11 @@ number_is_ill_typed = refl
 abbrev over : Config
 over = record { procedure = 0; items = []; frames = []; state = start; reward = zeroᵛ; turns = λ n. 0 }
 
--- It has no item, as `EndedStays` asks.
+-- It has no item, as `EndedStays` requires.
 nothing_is_left : over.items ≡ []
 nothing_is_left = refl
 
--- The file satisfies the rules and the first configuration the condition, as `StoredStepsAreMeant` asks.
+-- The file satisfies the static rules and the first configuration the condition, as
+-- `StoredStepsAreMeant` requires.
 coin_is_stored : Each (MeetsRules file) file × IsConfig file (stored_begin file 0 start)
 coin_is_stored = ((coin_meets (Form.number oneᵛ) one_held (number_is_over oneᵛ), tt), record { running = 0; lists = (refl, (((refl, record { act = flip; named = refl; runs = (tt, tt) }), tt), (refl, refl))); turns = refl })

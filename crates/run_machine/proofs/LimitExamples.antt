@@ -1,4 +1,5 @@
--- Steps that have no outcomes, since one would have too many values or since a number does not fit, and small steps that have some.
+-- Steps without outcomes, because one would have more than 512 values or a number overflows, and
+-- small steps with outcomes.
 use Rattle.std.proofs.Common.{◌≡◌, ℕ, refl, false, List, [], ◌∷◌, Some, pos}
 use Rattle.std.specs.Prelude.{replicate}
 use Rattle.heyvl_num.specs.Exact.{exact_sum, sum_fits}
@@ -24,7 +25,7 @@ place = record { from = 0; to = 0 }
 abbrev number : ℕ → Form
 number n = Form.number (finite (ratio (pos n) 1))
 
--- A procedure with n Boolean locals and one act.
+-- A procedure with `n` Boolean locals and one act.
 abbrev procedure : ℕ → Act → TypedProcedure
 procedure n a = record nobody { locals = replicate n (record { name = []; ty = Ty.Bool }); body = Some (Acts.next a Acts.done) }
 
@@ -38,15 +39,15 @@ calls_itself n = procedure n (Act.call [] 0 [] place) ∷ []
 abbrev called_once : ℕ → Stored
 called_once n = record { procedure = 0; items = Do 0 0 ∷ Back 0 0 ∷ []; state = replicate n (Truth false); frames = ([], replicate n (Truth false)) ∷ []; reward = zeroᵛ; turns = []; made = 0 }
 
--- With 200 locals the call would make 600 values, and has no outcome.
+-- With 200 locals the call would make 600 values, so there is no outcome.
 deep_call : (stored_reply (calls_itself 200) (called_once 200) Decision.none ≡ Reply.deep) × (bounded_step (calls_itself 200) (config_of (calls_itself 200) (called_once 200)) Decision.none ≡ Answer.deep)
 deep_call = (refl, refl)
 
--- With one local it makes 3 values, and has one.
+-- With one local it makes 3 values, so there is an outcome.
 call_is_not_deep : (stored_reply (calls_itself 1) (called_once 1) Decision.none ≡ Reply.deep → ⊥) × (bounded_step (calls_itself 1) (config_of (calls_itself 1) (called_once 1)) Decision.none ≡ Answer.deep → ⊥)
 call_is_not_deep = ((λ e. cc), (λ e. cc))
 
--- ---- A number that does not fit
+-- ---- A number that overflows
 
 -- A procedure that collects a reward.
 abbrev collects : Form → List TypedProcedure
@@ -59,12 +60,12 @@ first ps = stored_begin ps 0 []
 abbrev wide : Form
 wide = Form.sum (number 170141183460469231731687303715884105727) (number 1)
 
--- The step of a reward that does not fit has no outcome.
+-- The step of a reward that overflows has no outcome.
 wide_reward : (stored_reply (collects wide) (first (collects wide)) Decision.none ≡ Reply.bits) × (bounded_step (collects wide) (config_of (collects wide) (first (collects wide))) Decision.none ≡ Answer.bits)
 unfolding ratio gcd gcd_steps exact_sum sum_fits
 wide_reward = (refl, refl)
 
--- The step of a reward of 1 has one.
+-- The step of a reward of 1 has an outcome.
 reward_is_not_wide : (stored_reply (collects (number 1)) (first (collects (number 1))) Decision.none ≡ Reply.bits → ⊥) × (bounded_step (collects (number 1)) (config_of (collects (number 1)) (first (collects (number 1)))) Decision.none ≡ Answer.bits → ⊥)
 unfolding ratio gcd gcd_steps exact_sum sum_fits zeroʳ zeroᵛ ◌+ʳ◌ ◌+ᵛ◌
 reward_is_not_wide = ((λ e. cc), (λ e. cc))

@@ -1,4 +1,5 @@
--- Stored configurations with other items and another state, as the definition moves them.
+-- Stored configurations with other items and another state: they change as those of the definition
+-- do.
 use Rattle.std.proofs.Common.{◌≡◌, ℕ, ◌+◌, ◌<◌, ◌≤◌, ◌==◌, ◌≢◌, ◌⊎◌, inl, inr, refl, ap, ap₂, sym, subst, ◌∙◌, arith, append_assoc, Bool, true, false, List, [], ◌∷◌, ◌++◌, length, reverse, drop, get_or}
 use Rattle.std.proofs.lemmas.Bool.Decides.{eqb_tells}
 use Rattle.std.specs.Prelude.{eqb, set, if◌then◌else◌, Option, Some, is_some, Result, Ok, Err, IfOk}
@@ -42,7 +43,6 @@ frames_kept ps [] front (f ∷ fs) g = absurd g
 frames_kept ps (i ∷ []) front (f ∷ fs) g = absurd g
 frames_kept ps (i ∷ (j ∷ is)) front (f ∷ fs) g = callers_same ps front (i ∷ []) (j ∷ is) (f ∷ fs) tt
 
--- The first item is left out, others come in front, and there is another state.
 pub moves : (ps : List TypedProcedure) (c : Stored) (front : List Numbered) (s : List Val) → Continues c → config_of ps (going c (front ++ behind c) s) ≡ moved (config_of ps c) (items_of ps (front ++ behind c)) s
 moves ps c front s g = λ i. record { procedure = c.procedure; items = items_of ps (front ++ drop 1 c.items); frames = frames_kept ps c.items front (reverse c.frames) g i; state = s; reward = c.reward; turns = turns_of c.turns }
 
@@ -52,7 +52,6 @@ passes ps c s g = moves ps c [] s g
 pub collects : (ps : List TypedProcedure) (c : Stored) (v : Value) → Continues c → config_of ps (collected c v) ≡ rewarded (config_of ps c) (items_of ps (behind c)) v
 collects ps c v g = λ i. record { procedure = c.procedure; items = items_of ps (drop 1 c.items); frames = frames_kept ps c.items [] (reverse c.frames) g i; state = c.state; reward = c.reward +ᵛ v; turns = turns_of c.turns }
 
--- The acts of a block come in front.
 pub opens : (ps : List TypedProcedure) (c : Stored) (p place : ℕ) (acts : Acts) → Continues c → Stands (text ps p) place (in_order acts) → config_of ps (opened c p place acts) ≡ moved (config_of ps c) (push acts (items_of ps (behind c))) c.state
 opens ps c p place acts g s = moves ps c (numbered p place acts) c.state g ∙ ap (λ l. moved (config_of ps c) l c.state) (named_push ps p place acts (behind c) s)
 
@@ -60,7 +59,7 @@ pub draws : (ps : List TypedProcedure) (c : Stored) (x : ℕ) (qs : List (Ration
 draws ps c x [] g = refl
 draws ps c x (q ∷ qs) g = ap₂ (λ e l. (q.0, e) ∷ l) (passes ps c _ g) (draws ps c x qs g)
 
--- ---- Turns
+-- ---- Iterations
 
 two_equal : (m n : ℕ) → m ≡ n → (m == n) ≡ true
 two_equal m n e = go (eqb_tells m n)
@@ -95,7 +94,6 @@ read_other (t ∷ ts) zero (suc m) v h = refl
 read_other (t ∷ ts) (suc n) zero v h = refl
 read_other (t ∷ ts) (suc n) (suc m) v h = read_other ts n m v (λ e. h (ap suc e))
 
--- The turns of a list in which the n-th has one more.
 turn_more : (ts : List ℕ) (n m : ℕ) → n < length ts → get_or (set ts n (get_or ts n 0 + 1)) m 0 ≡ (if m == n then 1 + get_or ts m 0 else get_or ts m 0)
 turn_more ts n m h = go (eqb_tells m n)
   where
@@ -125,7 +123,6 @@ turn_counted ts n m p start h = go (p == start) refl
     go true e = let k = h (are_equal p start e) in turns_more ts n m k.0 k.1
     go false e = refl
 
--- One turn of a loop begins.
 pub turns_round : (ps : List TypedProcedure) (c : Stored) (p place : ℕ) (h : Head) (b : Acts) → Continues c → Names ps p place (Act.loop h b) → Stands (text ps p) (place + 1) (in_order b) → running c.procedure (callers ps c.items (reverse c.frames)) ≡ p → (p ≡ c.procedure → (1 ≤ h.number) × (h.number ≤ length c.turns)) → config_of ps (turned_at c p place h.number b) ≡ turned (config_of ps c) (push b (Item.turn h b ∷ items_of ps (behind c))) h.number
 turns_round ps c p place h b g n s r k =
     let block = numbered p (place + 1) b in
@@ -135,7 +132,6 @@ turns_round ps c p place h b g n s r k =
 
 -- ---- Replies
 
--- What holds of what is given, and follows from it, holds too.
 pub if_ok : {A E : Type 0} (r : Result A E) (P Q : A → Type 0) → ((x : A) → P x → Q x) → IfOk r P → IfOk r Q
 if_ok (Ok x) P Q f h = f x h
 if_ok (Err e) P Q f h = tt
@@ -144,7 +140,6 @@ pub all_fits : (fits : Bool) (x y : Stored) → true ≡ fits → x ≡ y → re
 all_fits true x y h e = ap (λ z. replied true (surely z)) e
 all_fits false x y h e = cc
 
--- A reward that is exact is added.
 pub reward_fits : (o : Option Value) (r v w : Value) → Some v ≡ o → Some w ≡ exact_sumᵛ r v → true ≡ is_some (and_then o (λ u. exact_sumᵛ r u))
 reward_fits o r v w h k = subst (λ p. true ≡ is_some (and_then p (λ u. exact_sumᵛ r u))) h (subst (λ q. true ≡ is_some q) k refl)
 

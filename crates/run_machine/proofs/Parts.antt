@@ -1,4 +1,4 @@
--- Stored configurations by their parts, as the steps of loops, calls and returns make them.
+-- Stored configurations by their parts, for the steps of loops, calls and returns.
 use Rattle.std.proofs.Common.{◌≡◌, ℕ, ◌+◌, ◌-◌, ◌<◌, ◌≤◌, ◌==◌, append_assoc, refl, ap, ap₂, sym, subst, ◌∙◌, arith, List, [], ◌∷◌, ◌++◌, length, map, reverse, drop, take, get_or}
 use Rattle.std.proofs.lemmas.List.{drop-drop, drop-map, take-append-drop, length-drop, length-map, length-take-le, reverse-append, reverse-reverse}
 use Rattle.std.specs.Prelude.{if◌then◌else◌}
@@ -23,7 +23,6 @@ turned_is c d p place n b block ones items ts e f g h t =
     ap (λ x. record { procedure = x.procedure; items = x.items; state = x.state; frames = x.frames; reward = x.reward; turns = ts; made = x.made }) h
     ∙ (λ i. record { procedure = c.procedure; items = list i; state = c.state; frames = c.frames; reward = c.reward; turns = t i; made = c.made })
 
--- One output more.
 pub outs_next : (old new : List Numbered) (q x end : ℕ) (all : List Numbered) → x < end → new ≡ old ++ (Out q x ∷ []) → old ++ out_items q x (end - x) ≡ all → new ++ out_items q (x + 1) (end - (x + 1)) ≡ all
 outs_next old new q x end all lt n h =
     ap (λ l. l ++ out_items q (x + 1) (end - (x + 1))) n
@@ -36,7 +35,6 @@ nothing_set : (xs : List ℕ) (s : List Val) → set_all xs [] s ≡ s
 nothing_set [] s = refl
 nothing_set (x ∷ xs) s = refl
 
--- Where no value is left, no variable changes.
 pub nothing_left : (xs : List ℕ) (vs s all : List Val) → length vs ≡ 0 → set_all xs vs s ≡ all → s ≡ all
 nothing_left xs [] s all h e = sym (nothing_set xs s) ∙ e
 nothing_left xs (v ∷ vs) s all h e = absurd (omega (arith, h))

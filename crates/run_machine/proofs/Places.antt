@@ -1,4 +1,4 @@
--- The places of acts: those of a block stand in a row in the text of its procedure's body.
+-- The places of acts: those of a block follow each other in the text of its procedure's body.
 use Rattle.std.proofs.Common.{◌≡◌, ℕ, ◌+◌, refl, ap, subst, ◌∙◌, arith, ◌⊎◌, inl, inr, List, [], ◌∷◌, ◌++◌, length}
 use Rattle.std.proofs.lemmas.Option.{none-some}
 use Rattle.std.specs.Prelude.{Option, Some, None}
@@ -21,7 +21,7 @@ nth_second : (xs ys : List Act) (n : ℕ) → nth (xs ++ ys) (length xs + n) ≡
 nth_second [] ys n = ap (λ m. nth ys m) (omega arith)
 nth_second (x ∷ xs) ys n = ap (λ m. nth (x ∷ (xs ++ ys)) m) (further (length xs) n) ∙ nth_second xs ys n
 
--- Where an act stands in two lists in a row.
+-- An act of the second of two lists, in their concatenation.
 record InSecond (xs ys : List Act) (n : ℕ) (a : Act) : Type 0 where
   left : ℕ
   behind : n ≡ length xs + left
@@ -57,7 +57,7 @@ part_rest xs n y ys h k a e = ap (λ m. nth xs m) (let q : suc n + k ≡ n + suc
 pub part_head : (xs : List Act) (n : ℕ) (y : Act) (ys : List Act) → Stands xs n (y ∷ ys) → nth xs n ≡ Some y
 part_head xs n y ys h = ap (λ m. nth xs m) (let q : n ≡ n + 0 = omega arith in q) ∙ h 0 y refl
 
--- Behind an act stand those inside it.
+-- Each act of the list is followed by the acts in it.
 abbrev Follows : List Act → Type 0
 Follows xs = (n : ℕ) (a : Act) → nth xs n ≡ Some a → Stands xs (suc n) (inside a)
 
@@ -115,7 +115,6 @@ follows_procedure (Some p) = follows_body p.body
 pub inside_stands : (ps : List TypedProcedure) (p place : ℕ) (a : Act) → act_named ps p place ≡ Some a → Stands (text ps p) (suc place) (inside a)
 inside_stands ps p place a h = follows_procedure (nth ps p) place a h
 
--- The numbered items of a block name its acts.
 pub named_push : (ps : List TypedProcedure) (p place : ℕ) (acts : Acts) (rest : List Numbered) → Stands (text ps p) place (in_order acts) → items_of ps (numbered p place acts ++ rest) ≡ push acts (items_of ps rest)
 named_push ps p place Acts.done rest h = refl
 named_push ps p place (Acts.next a more) rest h =

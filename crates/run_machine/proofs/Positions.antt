@@ -1,4 +1,4 @@
--- What is known of a configuration by its first item.
+-- Conclusions from the first item of a configuration.
 use Rattle.std.proofs.Common.{◌≡◌, ℕ, refl, ap, sym, subst, ◌∙◌, List, [], ◌∷◌, ◌++◌, reverse, drop}
 use Rattle.heylo_formula.specs.declared.values.Val.{Val}
 use Rattle.heyvl_acts.specs.Acts.{TypedProcedure, procedure_at}
@@ -22,7 +22,8 @@ pub each_append : {A : Type 0} (P : A → Type 0) (xs ys : List A) → Each P xs
 each_append P [] ys h k = k
 each_append P (x ∷ xs) ys h k = (h.0, each_append P xs ys h.1 k)
 
--- The first item of a called procedure's list, where it is no return: it belongs, and the rest ends in the same return.
+-- The first item of a called procedure is no return: it belongs to the procedure, and the rest ends
+-- with the same return.
 record Opens (ps : List TypedProcedure) (m n : ℕ) (i : Numbered) (rest : List Numbered) : Type 0 where
   belongs : IsItemOf ps n i
   called : IsCalled ps m n rest
@@ -74,7 +75,6 @@ last_is ps [] j = refl
 last_is ps (x ∷ []) j = refl
 last_is ps (x ∷ (y ∷ front)) j = last_is ps (y ∷ front) j
 
--- The call to which a called procedure's list returns.
 pub called_last : (ps : List TypedProcedure) (m n : ℕ) (is : List Numbered) (q : IsCalled ps m n is) → last_call ps is ≡ (q.targets, n)
 called_last ps m n is q = ap (last_call ps) q.ends ∙ last_is ps q.front (Back m q.place) ∙ ap call_parts q.names
 
@@ -82,7 +82,7 @@ lists_running : (ps : List TypedProcedure) (start n : ℕ) (is : List Numbered) 
 lists_running ps start n is s [] h = sym h.0
 lists_running ps start n is s (f ∷ fs) h = ap (λ l. l.1) (called_last ps h.0 n is h.1.0)
 
--- What is known where the first item is no return.
+-- What holds if the first item is no return.
 pub record At (ps : List TypedProcedure) (c : Stored) (i : Numbered) (n : ℕ) : Type 0 where
   pub continues : Continues c
   pub belongs : IsItemOf ps n i
@@ -101,7 +101,6 @@ position ps c i rest h e plain =
       goes = λ front t each st. subst (λ l. AreLists ps c.procedure h.running (front ++ l) t (reverse c.frames)) (sym (ap (λ l. drop 1 l) e)) (lists_go ps c.procedure h.running i rest front c.state t (reverse c.frames) plain each st lists);
     }
 
--- The same lists with another state beside the items.
 pub lists_restate : (ps : List TypedProcedure) (start n : ℕ) (is : List Numbered) (s t : List Val) (fs : List Lists) → IsState (procedure_at ps n) t → AreLists ps start n is s fs → AreLists ps start n is t fs
 lists_restate ps start n is s t [] st h = (h.0, (h.1.0, st))
 lists_restate ps start n is s t (f ∷ fs) st h = (h.0, (h.1.0, (st, h.1.1.1)))

@@ -53,7 +53,6 @@ text_is ps p = go (nth ps p) refl
 pub text_stands : (ps : List TypedProcedure) (p : ℕ) → Stands (text ps p) 0 (in_order (acts_in (procedure_at ps p).body))
 text_stands ps p = subst (λ l. Stands l 0 (in_order (acts_in (procedure_at ps p).body))) (sym (text_is ps p)) (at_start (in_order (acts_in (procedure_at ps p).body)))
 
--- The items of a procedure's body, from its first place on, name its acts.
 pub body_named : (ps : List TypedProcedure) (p : ℕ) (rest : List Numbered) → items_of ps (numbered p 0 (acts_in (procedure_at ps p).body) ++ rest) ≡ push (acts_in (procedure_at ps p).body) (items_of ps rest)
 body_named ps p rest = named_push ps p 0 (acts_in (procedure_at ps p).body) rest (text_stands ps p)
 
@@ -91,7 +90,6 @@ no_turn_yet : (n m : ℕ) → turns_of (replicate n nothing) m ≡ nothing
 no_turn_yet n zero = refl
 no_turn_yet n (suc m) = no_turn n m
 
--- The first configuration, by what its parts hold.
 pub first_stored : (ps : List TypedProcedure) (p : ℕ) (s t : List Val) (is : List Numbered) (fs : List Lists) (z : Rational) (ts : List ℕ) → is ≡ numbered p 0 (acts_in (procedure_at ps p).body) → t ≡ s → fs ≡ [] → z ≡ zeroʳ → ts ≡ replicate (procedure_at ps p).loops 0 → record { procedure = p; items = is; state = t; frames = fs; reward = finite z; turns = ts; made = 0 } ≡ stored_begin ps p s
 unfolding zeroᵛ
 first_stored ps p s t is fs z ts e f g h k = λ i. record { procedure = p; items = e i; state = f i; frames = g i; reward = finite (h i); turns = k i; made = 0 }

@@ -1,4 +1,4 @@
--- What a stored reply says of a step.
+-- A stored reply determines the result of a step.
 use Rattle.std.proofs.Common.{◌≡◌, ℕ, Bool, true, false, ◌||◌, nat_lt, refl, ap, ap₂, sym, subst, ◌∙◌, List, [], ◌∷◌}
 use Rattle.std.specs.Prelude.{if◌then◌else◌}
 use Rattle.heyvl_num.specs.Rational.{Rational}
@@ -74,7 +74,6 @@ all_configs : (ps : List TypedProcedure) (made : ℕ) (xs : StoredOutcomes) → 
 all_configs ps made [] h = tt
 all_configs ps made (x ∷ xs) h = (h.0.config, all_configs ps made xs h.1)
 
--- A reply that is that of the stored step is the step of the definition.
 pub is_step : (ps : List TypedProcedure) (c : Stored) (d : Decision) (r : Stepped) → MeansStep ps c d → reply_of r ≡ stored_reply ps c d → IsStep ps c d r
 is_step ps c d r m e =
     let fits = items_fit (items_of ps c.items) (config_of ps c) in

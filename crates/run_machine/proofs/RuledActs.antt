@@ -1,4 +1,4 @@
--- What the static rules say of an act that a place names.
+-- The static rules on an act that a place names.
 use Rattle.std.proofs.Common.{◌≡◌, ℕ, ◌+◌, ◌-◌, ◌≤◌, ◌<◌, ◌==◌, ◌≢◌, ◌||◌, ◌⊎◌, inl, inr, refl, ap, sym, subst, ◌∙◌, arith, Bool, true, false, List, [], ◌∷◌, ◌++◌, length, map, take, drop}
 use Rattle.std.proofs.lemmas.List.{length-append, length-take-le, length-drop, length-map}
 use Rattle.std.proofs.lemmas.Option.{none-some}
@@ -74,7 +74,6 @@ counted_between : (lo hi from n : ℕ) → lo ≤ from → from + n ≤ hi → E
 counted_between lo hi from zero h k = tt
 counted_between lo hi from (suc n) h k = ((h, omega (arith, k)), counted_between lo hi (suc from) n (omega (arith, h)) (omega (arith, k)))
 
--- A loop has a number from 1 to the number of the procedure's loops.
 pub loop_range : (ps : List TypedProcedure) (n place : ℕ) (h : Head) (b : Acts) → Each (MeetsRules ps) ps → Names ps n place (Act.loop h b) → (1 ≤ h.number) × (h.number ≤ (procedure_at ps n).loops)
 loop_range ps n place h b all named = go (nth ps n) refl
   where
@@ -136,7 +135,6 @@ runs_all ps co (Act.validate up span ∷ rest) h k = absurd (cc)
 runs_all ps co (Act.call ys q es span ∷ rest) h k = (k q (or_left (q == q) (calls q rest) (same_is q)), runs_all ps co rest h (λ r e. k r (or_right (q == r) (calls r rest) e)))
 runs_all ps co (Act.loop g d ∷ rest) h k = (tt, runs_all ps co rest h k)
 
--- A run takes each act of a program that reaches programs alone.
 pub program_runs : (ps : List TypedProcedure) (q : ℕ) → ReachesPrograms ps q → Each (CanRun ps) (in_order (acts_in (procedure_at ps q).body))
 program_runs ps q h = runs_all ps (procedure_at ps q).co (in_order (acts_in (procedure_at ps q).body)) (unbroken (procedure_at ps q) h.itself) (λ r e. record { itself = h.reached r (Reaches.directly q r e); reached = λ t k. h.reached t (Reaches.onward q r t e k) })
 

@@ -1,4 +1,4 @@
--- The acts of a block are named by its places, and a run takes them.
+-- Places name the acts of a block, and a run may take these.
 use Rattle.std.proofs.Common.{ℕ, ◌+◌, append_assoc, refl, subst, arith, Bool, true, false, List, [], ◌∷◌, ◌++◌, length}
 use Rattle.std.specs.Prelude.{if◌then◌else◌}
 use Prim.Native.Nat.{suc}
@@ -23,7 +23,6 @@ pub each_second : {A : Type 0} (P : A → Type 0) (xs ys : List A) → Each P (x
 each_second P [] ys h = h
 each_second P (x ∷ xs) ys h = each_second P xs ys h.1
 
--- The items of a block belong to its procedure.
 pub block_belongs : (ps : List TypedProcedure) (n place : ℕ) (acts : Acts) → Stands (text ps n) place (in_order acts) → Each (CanRun ps) (in_order acts) → Each (IsItemOf ps n) (numbered n place acts)
 block_belongs ps n place Acts.done s r = tt
 block_belongs ps n place (Acts.next a rest) s r = (
@@ -31,7 +30,7 @@ block_belongs ps n place (Acts.next a rest) s r = (
   block_belongs ps n (place + suc (length (inside a))) rest (subst (λ m. Stands (text ps n) m (in_order rest)) (omega arith) (part_second (text ps n) (suc place) (inside a) (in_order rest) (part_rest (text ps n) place a (inside a ++ in_order rest) s))) (each_second (CanRun ps) (inside a) (in_order rest) r.1),
 )
 
--- The block that an if takes.
+-- The block that an if takes is at its place.
 stands_apart : (xs : List Act) (n : ℕ) (b : Acts) (more : Arms) (e : Acts) → Stands xs n ((in_order b ++ inside_arms more) ++ in_order e) → Stands xs n (in_order b ++ (inside_arms more ++ in_order e))
 stands_apart xs n b more e h = subst (Stands xs n) (append_assoc (in_order b) (inside_arms more) (in_order e)) h
 

@@ -1,4 +1,4 @@
--- What the program's step gives is the step of the definition.
+-- The result of the program's step is that of the definition.
 use Rattle.std.proofs.Common.{◌≡◌, ℕ, ◌+◌, ◌<◌, ◌≤◌, ◌^◌, inl, inr, refl, ap, ap₂, sym, subst, ◌∙◌, arith, Bool, true, List, [], ◌∷◌, ◌++◌, length, reverse, drop}
 use Rattle.std.proofs.lemmas.List.{reverse-append, reverse-reverse}
 use Rattle.std.proofs.lemmas.Option.{none-some}
@@ -32,11 +32,10 @@ use Rattle.run_machine.proofs.Steps.{act_means, back_means, does, ended_means, i
 first_fits : (ps : List TypedProcedure) (c : Stored) (i : Numbered) (j : Item) → c.items ≡ i ∷ drop 1 c.items → item_of ps i ≡ j → item_fits j (config_of ps c) ≡ items_fit (items_of ps c.items) (config_of ps c)
 first_fits ps c i j e n = sym (ap (λ l. items_fit (items_of ps l) (config_of ps c)) e ∙ ap (λ k. item_fits k (config_of ps c)) n)
 
--- What the program gives is the step, where its numbers fit as those of the first item do.
+-- The program's result is the step, if its overflows are those of the first item.
 item_is : (ps : List TypedProcedure) (c : Stored) (d : Decision) (r : Stepped) (i : Numbered) (j : Item) (fits : Bool) (xs : StoredOutcomes) → c.items ≡ i ∷ drop 1 c.items → item_of ps i ≡ j → stored_item ps i c d ≡ xs → reply_of r ≡ replied fits xs → fits ≡ item_fits j (config_of ps c) → MeansStep ps c d → IsStep ps c d r
 item_is ps c d r i j fits xs e n w h f m = is_step ps c d r m (h ∙ ap₂ replied (f ∙ first_fits ps c i j e n) (sym (stored_first ps c d i xs e w)))
 
--- The same of an act, or of a loop under way.
 pub act_is : (ps : List TypedProcedure) (c : Stored) (d : Decision) (r : Stepped) (p place : ℕ) (a : Act) → ComesNext ps c p place a → reply_of r ≡ replied (act_fits a (config_of ps c)) (stored_act ps p place a c d) → IsStep ps c d r
 act_is ps c d r p place a h e = go h.first
   where
@@ -47,11 +46,9 @@ act_is ps c d r p place a h e = go h.first
         let fits : act_fits a (config_of ps c) ≡ item_fits (Item.turn u.loop.head u.loop.body) (config_of ps c) = ap (λ b. act_fits b (config_of ps c)) (sym u.same) in
         item_is ps c d r (Turn p place) (Item.turn u.loop.head u.loop.body) (act_fits a (config_of ps c)) (stored_act ps p place a c d) f (ap turn_item u.loop.named) (does ps c d p place a h.names) e fits (act_means ps c d p place a h)
 
--- The same of an output.
 pub out_is : (ps : List TypedProcedure) (c : Stored) (d : Decision) (r : Stepped) (q x : ℕ) → IsConfig ps c → c.items ≡ Out q x ∷ drop 1 c.items → reply_of r ≡ replied true (surely (asked (assigned c x (fit (types_of (procedure_at ps q) x) (value_of d))))) → IsStep ps c d r
 out_is ps c d r q x h f e = item_is ps c d r (Out q x) (Item.out x (types_of (procedure_at ps q) x)) true (surely (asked (assigned c x (fit (types_of (procedure_at ps q) x) (value_of d))))) f refl refl e refl (out_means ps c d q x h f)
 
--- The same of a return.
 pub back_is : (ps : List TypedProcedure) (c : Stored) (d : Decision) (r : Stepped) (p place q : ℕ) (xs : List ℕ) (es : List Term) (span : Span) → Each (MeetsRules ps) ps → IsConfig ps c → c.items ≡ Back p place ∷ drop 1 c.items → Names ps p place (Act.call xs q es span) → ((fs : List Lists) (f : Lists) → c.frames ≡ fs ++ (f ∷ []) → reply_of r ≡ replied true (surely (resumed c xs (procedure_at ps q) fs f))) → IsStep ps c d r
 back_is ps c d r p place q xs es span rules h f n e = go (reverse c.frames) refl
   where
@@ -64,11 +61,10 @@ back_is ps c d r p place q xs es span rules h f n e = go (reverse c.frames) refl
         let frames : c.frames ≡ reverse gs ++ (g ∷ []) = sym (reverse-reverse c.frames) ∙ ap reverse z ∙ reverse-append (g ∷ []) gs in
         item_is ps c d r (Back p place) Item.back true (surely (resumed c xs (procedure_at ps q) (reverse gs) g)) f refl (ap (λ o. stored_return ps (call_parts o) c (reverse c.frames)) n ∙ ap (stored_return ps (xs, q) c) z) (e (reverse gs) g frames) refl (back_means ps c d p place q xs es span rules h f n)
 
--- An ended configuration has no outcome.
 pub ended_is : (ps : List TypedProcedure) (c : Stored) (d : Decision) (r : Stepped) → c.items ≡ [] → reply_of r ≡ replied true [] → IsStep ps c d r
 ended_is ps c d r f e = is_step ps c d r (ended_means ps c d f) (e ∙ ap₂ replied (sym (ap (λ l. items_fit (items_of ps l) (config_of ps c)) f)) (sym (ap (λ l. stored_items ps l c d) f)))
 
--- ---- Room for places
+-- ---- Places do not overflow
 
 nth_below : (xs : List Act) (n : ℕ) (a : Act) → nth xs n ≡ Some a → n < length xs
 nth_below [] n a h = elim (none-some a h) [ ]
@@ -79,7 +75,6 @@ stands_within : (xs : List Act) (n : ℕ) (ys : List Act) → n ≤ length xs �
 stands_within xs n [] l h = omega (arith, l)
 stands_within xs n (y ∷ ys) l h = let k = nth_below xs n y (part_head xs n y ys h) in let m = stands_within xs (suc n) ys (omega (arith, k)) (part_rest xs n y ys h) in omega (arith, m)
 
--- The acts inside an act have places.
 pub has_room : (ps : List TypedProcedure) (p place : ℕ) (a : Act) → HasFewActs ps → Names ps p place a → place + 1 + length (inside a) < 2 ^ 31
 has_room ps p place a few n =
     let k = nth_below (text ps p) place a n in

@@ -1,4 +1,4 @@
--- Each act's step on stored configurations is the definition's.
+-- The step of each act on stored configurations is that of the definition.
 use Rattle.std.proofs.Common.{◌≡◌, ℕ, ◌+◌, ◌==◌, ◌<◌, ◌≤◌, inl, inr, append_assoc, refl, ap, sym, subst, ◌∙◌, arith, Bool, true, false, List, [], ◌∷◌, ◌++◌, length, reverse, drop, slice_get}
 use Rattle.std.proofs.lemmas.List.{length-append, length-set}
 use Rattle.std.specs.Prelude.{if◌then◌else◌, Some, None}
@@ -44,18 +44,15 @@ use Rattle.run_machine.proofs.RuledActs.{Ruled, loop_range, ruled}
 use Rattle.run_machine.proofs.RunPlaces.{block_belongs, each_first, each_second, taken_runs, taken_stands}
 use Rattle.run_machine.proofs.exported.TypedStates.{first_typed, own_set, resumed_typed, term_has}
 
--- The first item decides the step.
 first_step : (ps : List TypedProcedure) (c : Stored) (d : Decision) (i : Numbered) (j : Item) → c.items ≡ i ∷ drop 1 c.items → item_of ps i ≡ j → step_item ps j (items_of ps (behind c)) (config_of ps c) d ≡ step ps (config_of ps c) d
 first_step ps c d i j e n = sym (ap (λ l. step_items ps (items_of ps l) (config_of ps c) d) e ∙ ap (λ k. step_item ps k (items_of ps (behind c)) (config_of ps c) d) n)
 
 first_asks : (ps : List TypedProcedure) (c : Stored) (i : Numbered) (j : Item) (m : ℕ) → c.items ≡ i ∷ drop 1 c.items → item_of ps i ≡ j → m ≡ c.made + asked_by (j ∷ items_of ps (behind c)) → m ≡ c.made + asked_by (items_of ps c.items)
 first_asks ps c i j m e n h = h ∙ sym (ap (λ l. c.made + asked_by (items_of ps l)) e ∙ ap (λ k. c.made + asked_by (k ∷ items_of ps (behind c))) n)
 
--- The first item decides the stored step.
 pub stored_first : (ps : List TypedProcedure) (c : Stored) (d : Decision) (i : Numbered) (xs : StoredOutcomes) → c.items ≡ i ∷ drop 1 c.items → stored_item ps i c d ≡ xs → stored_step ps c d ≡ xs
 stored_first ps c d i xs e w = ap (λ l. stored_items ps l c d) e ∙ w
 
--- Where the first item's stored step gives these outcomes, they stand for the step.
 item_step : (ps : List TypedProcedure) (c : Stored) (d : Decision) (i : Numbered) (j : Item) (xs : StoredOutcomes) → c.items ≡ i ∷ drop 1 c.items → item_of ps i ≡ j → stored_item ps i c d ≡ xs → named ps xs ≡ step_item ps j (items_of ps (behind c)) (config_of ps c) d → Each (Comes ps (c.made + asked_by (j ∷ items_of ps (behind c)))) xs → MeansStep ps c d
 item_step ps c d i j xs e n w o k =
     let same = stored_first ps c d i xs e w in
@@ -64,11 +61,9 @@ item_step ps c d i j xs e n w o k =
       comes = subst (λ m. Each (Comes ps m) (stored_step ps c d)) (first_asks ps c i j _ e n refl) (subst (Each (Comes ps (c.made + asked_by (j ∷ items_of ps (behind c))))) (sym same) k);
     }
 
--- The same for one outcome, for sure.
 one_step : (ps : List TypedProcedure) (c : Stored) (d : Decision) (i : Numbered) (j : Item) (x : Stored) → c.items ≡ i ∷ drop 1 c.items → item_of ps i ≡ j → stored_item ps i c d ≡ surely x → sure (config_of ps x) ≡ step_item ps j (items_of ps (behind c)) (config_of ps c) d → Comes ps (c.made + asked_by (j ∷ items_of ps (behind c))) (oneʳ, x) → MeansStep ps c d
 one_step ps c d i j x e n w o k = item_step ps c d i j (surely x) e n w o (k, tt)
 
--- An act that a place names takes its step, and so does a loop under way.
 pub does : (ps : List TypedProcedure) (c : Stored) (d : Decision) (p place : ℕ) (a : Act) → Names ps p place a → stored_item ps (Do p place) c d ≡ stored_act ps p place a c d
 does ps c d p place a n = ap (λ o. stored_named ps p place o c d) n
 
@@ -89,7 +84,7 @@ NoLoop (Act.check kind f span) = Unit {0}
 NoLoop (Act.validate co span) = Unit {0}
 NoLoop (Act.call xs q es span) = Unit {0}
 
--- What is known of an act that comes next: its procedure runs.
+-- What holds if an act comes next: its procedure runs.
 record Known (ps : List TypedProcedure) (c : Stored) (p place : ℕ) (a : Act) : Type 0 where
   first : c.items ≡ Do p place ∷ drop 1 c.items
   at : At ps c (Do p place) p
@@ -115,7 +110,7 @@ known_do ps c p place a h f =
       turns = h.config.turns;
     }
 
--- A loop under way that comes next.
+-- The test of a loop comes next.
 pub record UnderWay (ps : List TypedProcedure) (c : Stored) (p place : ℕ) (a : Act) : Type 0 where
   pub at : At ps c (Turn p place) p
   pub loop : NamesLoop ps p place
@@ -134,11 +129,10 @@ known ps c p place a h plain = go h.first
     go (inl f) = known_do ps c p place a h f
     go (inr f) = absurd (subst NoLoop (sym (under_way ps c p place a h f).same) plain)
 
--- A configuration that goes on with other items in front and another state meets the condition.
 goes : (ps : List TypedProcedure) (c : Stored) (p : ℕ) (i : Numbered) (front : List Numbered) (s : List Val) → At ps c i p → length c.turns ≡ (procedure_at ps c.procedure).loops → Each (IsItemOf ps p) front → IsState (procedure_at ps p) s → IsConfig ps (going c (front ++ behind c) s)
 goes ps c p i front s at turns each st = record { running = p; lists = at.goes front s each st; turns = turns }
 
--- ---- Acts that hold no others
+-- ---- Acts that contain no other acts
 
 set_means : (ps : List TypedProcedure) (c : Stored) (d : Decision) (p place x : ℕ) (t : Term) (span : Span) → ComesNext ps c p place (Act.set x t span) → MeansStep ps c d
 set_means ps c d p place x t span h =
@@ -185,7 +179,7 @@ reward_means ps c d p place f span h =
     let g = goes ps c p (Do p place) [] c.state k.at k.turns tt k.at.state in
     one_step ps c d (Do p place) (Item.act (Act.reward f span)) (collected c (value f (environment c.state) Choices.stop)) k.first (ap act_item h.names) (does ps c d p place (Act.reward f span) h.names) (ap sure (collects ps c _ k.at.continues)) (record { weight = zero-≤ʳ-one; asks = no_more c.made; config = record { running = g.running; lists = g.lists; turns = g.turns } })
 
--- ---- Acts that hold blocks
+-- ---- Acts that contain blocks
 
 opened_config : (ps : List TypedProcedure) (c : Stored) (p place : ℕ) (i : Numbered) (acts : Acts) → At ps c i p → length c.turns ≡ (procedure_at ps c.procedure).loops → Stands (text ps p) place (in_order acts) → Each (CanRun ps) (in_order acts) → IsConfig ps (opened c p place acts)
 opened_config ps c p place i acts at ts s r = goes ps c p i (numbered p place acts) c.state at ts (block_belongs ps p place acts s r) at.state
@@ -227,7 +221,7 @@ length_more : (n : ℕ) (ts : List ℕ) → length (more_turns n ts) ≡ length 
 length_more zero ts = refl
 length_more (suc n) ts = length-set ts n _
 
--- What is known where the test of a loop comes next.
+-- What holds if the test of a loop comes next.
 record Tests (ps : List TypedProcedure) (c : Stored) (i : Numbered) (p place : ℕ) (h : Head) (b : Acts) : Type 0 where
   at : At ps c i p
   names : Names ps p place (Act.loop h b)
@@ -318,7 +312,6 @@ back_means ps c d p place q xs es span rules h f n = go (reverse c.frames) refl
         let st = resumed_typed (procedure_at ps p) (procedure_at ps q) xs c.state g.1 rule.targets rule.typed.targets k.state (lists_state ps c.procedure p g.0 g.1 gs k.waits) in
         one_step ps c d (Back p place) Item.back (resumed c xs (procedure_at ps q) (reverse gs) g) f refl (ap (λ o. stored_return ps (call_parts o) c (reverse c.frames)) n ∙ ap (stored_return ps (xs, q) c) z) (resumes ps c p place q xs es span g gs (items_of ps (behind c)) (f ∙ ap (λ l. Back p place ∷ l) k.alone) n z) (record { weight = zero-≤ʳ-one; asks = no_more c.made; config = resumed_config ps c p q xs g gs k.waits st h.turns })
 
--- An ended configuration has no outcome.
 pub ended_means : (ps : List TypedProcedure) (c : Stored) (d : Decision) → c.items ≡ [] → MeansStep ps c d
 ended_means ps c d f =
     let none : stored_step ps c d ≡ [] = ap (λ l. stored_items ps l c d) f in
@@ -327,14 +320,13 @@ ended_means ps c d f =
       comes = subst (Each (Comes ps (c.made + asked_by (items_of ps c.items)))) (sym none) tt;
     }
 
--- A check and a validation don't come.
+-- A check or a validation never comes next.
 check_means : (ps : List TypedProcedure) (c : Stored) (d : Decision) (p place : ℕ) (kind : CheckKind) (f : Form) (span : Span) → ComesNext ps c p place (Act.check kind f span) → MeansStep ps c d
 check_means ps c d p place kind f span h = absurd (known ps c p place (Act.check kind f span) h tt).runs.0
 
 validate_means : (ps : List TypedProcedure) (c : Stored) (d : Decision) (p place : ℕ) (co : Bool) (span : Span) → ComesNext ps c p place (Act.validate co span) → MeansStep ps c d
 validate_means ps c d p place co span h = absurd (known ps c p place (Act.validate co span) h tt).runs.0
 
--- Any act that comes next.
 pub act_means : (ps : List TypedProcedure) (c : Stored) (d : Decision) (p place : ℕ) (a : Act) → ComesNext ps c p place a → MeansStep ps c d
 act_means ps c d p place (Act.set x t span) h = set_means ps c d p place x t span h
 act_means ps c d p place (Act.draw x qs span) h = draw_means ps c d p place x qs span h
@@ -350,7 +342,6 @@ act_means ps c d p place (Act.call xs q es span) h = call_means ps c d p place q
 
 -- ---- Named acts
 
--- Where an act or a loop comes next, its place names one.
 pub some_act : (ps : List TypedProcedure) (c : Stored) (p place : ℕ) → IsConfig ps c → IsAt p place c.items → act_named ps p place ≡ None → ⊥
 some_act ps c p place h first e = go first
   where
@@ -396,11 +387,10 @@ NoCall (Act.check kind f span) = Unit {0}
 NoCall (Act.validate co span) = Unit {0}
 NoCall (Act.loop h b) = Unit {0}
 
--- A return comes to a call alone.
+-- A return comes only to a call.
 pub to_no_other : (ps : List TypedProcedure) (c : Stored) (a : Act) → ReturnsNext ps c a → NoCall a → ⊥
 to_no_other ps c a h other = let k = back_called ps c h.p h.place h.config h.first in subst NoCall (same_act a (Act.call k.targets k.callee k.arguments k.span) (sym h.names ∙ k.names)) other
 
--- The call to which a return comes: it is there, and the running procedure has a state.
 pub back_there : (ps : List TypedProcedure) (c : Stored) (q : ℕ) (xs : List ℕ) (es : List Term) (span : Span) → ReturnsNext ps c (Act.call xs q es span) → q < length ps
 back_there ps c q xs es span h = (ruled ps h.p h.place (Act.call xs q es span) h.rules h.names).typed.there
 
@@ -411,7 +401,6 @@ back_state ps c q xs es span h = go (reverse c.frames) (subst (λ l. AreLists ps
     go [] k = absurd k.1.0.0
     go (g ∷ gs) k = (returning ps c.procedure h.config.running h.p h.place q xs es span (drop 1 c.items) c.state g gs h.names k).state
 
--- The first item of a list.
 pub first_item : (is : List Numbered) (i : Numbered) → slice_get is 0 ≡ Some i → is ≡ i ∷ drop 1 is
 first_item [] i h = elim (none-some i h) [ ]
 first_item (j ∷ is) i h = ap (λ k. k ∷ is) (let e : j ≡ i = cc in e)
@@ -421,7 +410,6 @@ first_item (j ∷ is) i h = ap (λ k. k ∷ is) (let e : j ≡ i = cc in e)
 first_of : (c : Stored) (i : Numbered) (is : List Numbered) → c.items ≡ i ∷ is → c.items ≡ i ∷ drop 1 c.items
 first_of c i is e = e ∙ ap (λ l. i ∷ drop 1 l) (sym e)
 
--- Each configuration that meets the condition steps as the definition does.
 pub stored_steps_are_meant : StoredStepsAreMeant
 stored_steps_are_meant ps rules c h d = go c.items refl
   where

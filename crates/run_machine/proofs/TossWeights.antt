@@ -1,4 +1,5 @@
--- The step of a toss: its weight is the smaller of a value and 1, and its numbers fit where the weight and the rest of 1 do.
+-- The step of a toss: its weight is the smaller of a value and 1. The step overflows only if the
+-- weight or its difference to 1 does.
 use Rattle.std.proofs.Common.{◌≡◌, ℕ, refl, sym, ap, ap₂, ◌∙◌, subst, true, false, cond, List, [], ◌∷◌}
 use Rattle.std.specs.Prelude.{Some, None, is_some, option_map}
 use Rattle.std.specs.declared.cmp.Ordering.{Ordering}
@@ -20,7 +21,6 @@ use Rattle.run_machine.specs.Names.{Stored}
 use Rattle.run_machine.specs.Replies.{Reply, StoredOutcomes, replied}
 use Rattle.run_machine.specs.StoredMoves.{stored_branches}
 
--- The order with 1 tells which is the smaller.
 pub smaller_is : (v : Value) (o : Ordering) → Some o ≡ exact_orderᵛ v oneᵛ → at_most_or o v oneᵛ ≡ minᵛ v oneᵛ
 unfolding minᵛ
 smaller_is v Less h = sym (ap (λ b. cond b v oneᵛ) (orderᵛ_at_most_less v oneᵛ Less h refl))
@@ -40,14 +40,12 @@ pub part_of_one : oneʳ ≡ finite_part oneᵛ
 unfolding oneᵛ
 part_of_one = refl
 
--- Where a number doesn't fit.
 pub no_weight : (f : Form) (s : List Val) (xs : StoredOutcomes) → None ≡ exact_weight f s → Reply.bits ≡ replied (toss_fits f s) xs
 no_weight f s xs h = subst (λ o. Reply.bits ≡ replied (is_some (and_then o (λ w. exact_difference oneʳ w))) xs) h refl
 
 pub no_rest : (f : Form) (s : List Val) (xs : StoredOutcomes) (w : Rational) → Some w ≡ exact_weight f s → None ≡ exact_difference oneʳ w → Reply.bits ≡ replied (toss_fits f s) xs
 no_rest f s xs w h k = subst (λ o. Reply.bits ≡ replied (is_some (and_then o (λ u. exact_difference oneʳ u))) xs) h (subst (λ o. Reply.bits ≡ replied (is_some o) xs) k refl)
 
--- Where both fit, these are the parts of the toss.
 pub both_fit : (c : Stored) (x : ℕ) (f : Form) (s : List Val) (w r : Rational) → Some w ≡ exact_weight f s → w ≡ toss_weight f (environment s) → Some r ≡ exact_difference oneʳ w → replied true (stored_branches c x ((w, Term.truth (Cond.constant true)) ∷ (r, Term.truth (Cond.constant false)) ∷ [])) ≡ replied (toss_fits f s) (stored_branches c x (toss_parts f (environment s)))
 both_fit c x f s w r h m k = ap₂ (λ fits qs. replied fits (stored_branches c x qs)) fits parts
   where

@@ -23,18 +23,15 @@ pub runs-next : (ps : List TypedProcedure) (n : ℕ) (c : Config) (t : Tree) →
 unfolding runs
 runs-next ps n c t = refl
 
--- Acts one after the other are pushed one after the other.
 pub push_join : (a b : Acts) (is : List Item) → push (join a b) is ≡ push a (push b is)
 push_join Acts.done b is = refl
 push_join (Acts.next a rest) b is = ap (λ js. Item.act a ∷ js) (push_join rest b is)
 
--- One is the value that leaves a product as it is.
 pub one_times : (v : Value) → finite oneʳ *ᵛ v ≡ v
 unfolding oneᵛ
 one_times v = one-*ᵛ v
 
--- The sums of no outcome, of one, of the runs of outcomes, and of the runs of one outcome that is sure; first for any value
--- of a configuration.
+-- Sums of one outcome and of the runs of outcomes, first for any value of a configuration.
 pub worth-one : (f : Config → Value) (c : Config) → weighted_sum f (sure c) ≡ f c
 worth-one f c = weighted_sum-cons f oneʳ c [] ∙ ap (λ v. (finite oneʳ *ᵛ f c) +ᵛ v) (weighted_sum-empty f) ∙ +ᵛ-zero _ ∙ one_times (f c)
 

@@ -1,4 +1,4 @@
--- The derived comparison of configurations compares what they store. For export.
+-- The derived comparison of configurations is that of the stored configurations.
 use Rattle.std.proofs.Common.{arith, rules, ◌≡◌, ◌<◌, ◌&&◌, ◌==◌, ℕ, Bool, true, false, List, [], ◌∷◌, map, refl, ap, ap₂, subst}
 use Rattle.std.proofs.lemmas.Bool.Decides.{Decides-eqb, Decides-int_eq, same_from_decides}
 use Rattle.std.proofs.Math.Bridge.{le_prop}
@@ -28,7 +28,7 @@ use Rattle.run_machine.specs.contracts.configurations.ItemPartialEq.TheImpl as i
 use Rattle.run_machine.specs.Names.{Lists, Numbered, lists_of, stored}
 use Rattle.run_machine.specs.SameConfigurations.{SameIsEqual, same_lists, same_stored, same_value}
 
--- ---- What the tests decide
+-- ---- The derived tests decide equality
 
 both_are : (a b : Bool) → (a && b) ≡ true → (a ≡ true) × (b ≡ true)
 both_are true b e = (refl, e)

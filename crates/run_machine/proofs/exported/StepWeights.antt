@@ -1,4 +1,4 @@
--- The weights of a step add up to 1. For export.
+-- The weights of a step have the sum 1.
 use Rattle.std.proofs.Common.{◌≡◌, ℕ, refl, ap, ◌∙◌, Bool, true, false, cond, List, [], ◌∷◌}
 use Rattle.heyvl_num.specs.Rational.{Rational, oneʳ, ◌+ʳ◌}
 use Rattle.heyvl_num.specs.WeightedSums.{total_weight}

@@ -1,4 +1,4 @@
--- Typed states stay typed: an assignment, the first state of a call, and its outputs. For export.
+-- States keep their types: in an assignment, in the first state of a call, and in its outputs.
 use Rattle.std.proofs.Common.{◌≡◌, ℕ, ◌≤◌, ◌<◌, ◌+◌, ◌==◌, ◌&&◌, refl, ap, sym, subst, ◌∙◌, arith, Bool, true, false, List, [], ◌∷◌, ◌++◌, length, map, take, drop}
 use Rattle.std.proofs.lemmas.List.{length-append}
 use Rattle.std.specs.Prelude.{set}
@@ -26,7 +26,6 @@ pub types_length : (xs : List Variable) → length (type_list xs) ≡ length xs
 types_length [] = refl
 types_length (x ∷ xs) = ap suc (types_length xs)
 
--- A variable that is the procedure's own takes a value of its type.
 pub own_set : (p : TypedProcedure) (s : List Val) (x : ℕ) (v : Val) → IsState p s → IsOwn p x → has (types_of p x) v ≡ true → IsState p (set s x v)
 own_set p s x v h o e = set_typed (type_list (variables p)) s x v h (subst (λ n. x < n) (sym (types_length (variables p))) o.below) e
 
@@ -105,6 +104,5 @@ all_set p (x ∷ xs) (ty ∷ tys) (v ∷ vs) s o f t h = all_set p xs tys vs (se
 pub resumed_typed : (p q : TypedProcedure) (xs : List ℕ) (last s : List Val) → Each (IsOwn p) xs → TargetsFit p xs (type_list q.outputs) → IsState q last → IsState p s → IsState p (set_all xs (outputs_of q last) s)
 resumed_typed p q xs last s o f l h = all_set p xs (type_list q.outputs) (outputs_of q last) s o f (outputs_typed q last l) h
 
--- A state holds a value for each input and each output.
 pub state_long : (q : TypedProcedure) (s : List Val) → IsState q s → length q.inputs + length q.outputs ≤ length s
 state_long q s h = let a = length-typed (type_list (variables q)) s h in let b = types_length (variables q) in let d = length-append q.inputs (q.outputs ++ q.locals) in let e = length-append q.outputs q.locals in omega (arith, a, b, d, e)

@@ -8,7 +8,7 @@ use Rattle.run_machine.specs.StoredMoves.{taken_place}
 use Rattle.run_machine.proofs.BlockSizes.{arms_from}
 use Rattle.run_machine.proofs.block_steps.if_step.Given as goal
 
--- What is left decides which block is taken, and where it stands.
+-- The arms that are left determine the block that is taken, and its place.
 abbrev pub invariant-loop-arm : goal.invariant-loop-arm
 invariant-loop-arm l = record {
   room : l.at + arms_from l.arms l.arm-index + length (in_order (acts_of l.other)) < 2 ^ 31;

@@ -5,7 +5,7 @@ use Rattle.run_machine.specs.BoundedStep.{terms_fit}
 use Rattle.run_machine.specs.Configurations.{evaluate}
 use Rattle.run_machine.proofs.evaluation.terms_at.Given as goal
 
--- What is left decides whether the terms fit, and follows the values.
+-- The terms that are left determine whether all have values; their values follow those so far.
 abbrev pub invariant-loop-term : goal.invariant-loop-term
 invariant-loop-term l = record {
   fits : terms_fit (terms_of l.terms) l.state ≡ terms_fit (terms_of (drop l.term-index l.terms)) l.state;

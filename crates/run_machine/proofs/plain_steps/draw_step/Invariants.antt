@@ -6,7 +6,7 @@ use Rattle.run_machine.specs.Replies.{stored_outcomes}
 use Rattle.run_machine.specs.StoredMoves.{stored_branches}
 use Rattle.run_machine.proofs.plain_steps.draw_step.Given as goal
 
--- What is left decides whether the parts fit, and follows the outcomes.
+-- The parts that are left determine whether all have values; their outcomes follow those so far.
 abbrev pub invariant-loop-part : goal.invariant-loop-part
 invariant-loop-part l = record {
   fits : parts_fit (parts_of l.parts) l.config.state.items ≡ parts_fit (parts_of (drop l.part-index l.parts)) l.config.state.items;
