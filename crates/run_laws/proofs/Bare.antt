@@ -1,4 +1,4 @@
--- Runs do not depend on the rules of loops, nor on places.
+-- Runs depend neither on the rules of loops nor on places.
 use Rattle.std.proofs.Common.{◌≡◌, ◌∙◌, ◌==◌, ℕ, refl, sym, ap, ap₂, subst, Bool, true, false, cond, List, [], ◌∷◌, map}
 use Rattle.std.specs.Prelude.{Option, Some, None, not, ◌&&◌, ◌||◌, length, set, if◌then◌else◌}
 use Prim.Native.Nat.{zero, suc}
@@ -131,14 +131,14 @@ bare_callee : (p : TypedProcedure) → callee_items (bare_procedure p) ≡ bare_
 bare_callee p = ap (λ is. outs (length p.inputs) (type_list p.outputs) is) (ap (λ b. push b (Item.back ∷ [])) (bare_acts_in p.body) ∙ bare_push (acts_in p.body) (Item.back ∷ [])) ∙ bare_outs (length p.inputs) (type_list p.outputs) (push (acts_in p.body) (Item.back ∷ []))
 
 module _ (ps : List TypedProcedure) where
-  -- the second configuration is the first without rules and places
+  -- The second configuration is the first one without rules and places.
   abbrev IsBare : Config → Config → Type 0
   IsBare c e = e ≡ bare_config c
 
   one : (c e : Config) → IsBare c e → Both IsBare (sure c) (sure e)
   one c e h = ((refl, h), tt)
 
-  -- a configuration with other items, frames, state and turns
+  -- The configuration with other items, frames, state and iterations.
   abbrev with : Config → List Item → List Frame → List Val → Value → (ℕ → ℕ) → Config
   with c is fs s v turns = record { procedure = c.procedure; items = is; frames = fs; state = s; reward = v; turns = turns }
 
@@ -211,7 +211,7 @@ module _ (ps : List TypedProcedure) where
   bare_begin : (p : ℕ) (s : List Val) → bare_config (begin ps p s) ≡ begin (bare_procedures ps) p s
   bare_begin p s = ap (λ (l : List Item). record { procedure = p; items = l; frames = []; state = s; reward = zeroᵛ; turns = λ k. 0 }) (sym (bare_push (acts_in (procedure_at ps p).body) []) ∙ (ap (λ b. push b []) (sym (bare_acts_in (procedure_at ps p).body)) ∙ ap (λ (q : TypedProcedure). push (acts_in q.body) []) (sym (bare_at ps p))))
 
-  -- the bound of the procedure, and of the procedure without rules and places
+  -- The bounds of the procedure and of the bare procedure are the same.
   bare_sums : (up : Bool) (p n : ℕ) (s : List Val) (t : Tree) → sum_of up (procedure_at ps p).post (runs ps n (begin ps p s) t) ≡ sum_of up (procedure_at (bare_procedures ps) p).post (runs (bare_procedures ps) n (begin (bare_procedures ps) p s) t)
   bare_sums up p n s t = bare_runs up (procedure_at ps p).post n (begin ps p s) t ∙ ap₂ (λ f (c : Config). sum_of up f (runs (bare_procedures ps) n c t)) (ap (λ (q : TypedProcedure). q.post) (sym (bare_at ps p))) (bare_begin p s)
 

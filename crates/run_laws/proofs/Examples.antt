@@ -1,4 +1,5 @@
--- Worked rows of the laws, and of what would make them wrong, computed by the definitions.
+-- Worked rows of the laws, and of changes that would make them false, computed by evaluating the
+-- definitions.
 use Rattle.std.proofs.Common.{◌≡◌, ℕ, refl, true, false, List, [], ◌∷◌, Some, None, pos}
 use Rattle.std.specs.Prelude.{ℤ}
 use Rattle.heyvl_num.specs.Gcd.{gcd, gcd_steps}
@@ -45,7 +46,7 @@ procedure body = record { name = []; co = true; weak = false; inputs = []; outpu
 abbrev sum_after : ℕ → TypedProcedure → ℤ × ℕ
 sum_after n p = parts (sum_of true p.post (runs (p ∷ []) n (begin (p ∷ []) 0 (Truth true ∷ [])) Tree.leaf))
 
--- ---- A loop that collects 1 in each turn
+-- ---- A loop that collects 1 in each iteration
 
 abbrev collecting : Head → TypedProcedure
 collecting h = procedure (Act.loop h (acts (Act.reward (number 1) (place 9) ∷ [])) ∷ [])
@@ -71,7 +72,7 @@ one_turn_with_rules : sum_after 2 (collecting with_rules) ≡ (pos 1, 1)
 unfolding runs weighted_sum scaled ratio gcd gcd_steps zeroʳ oneʳ zeroᵛ oneᵛ ◌+ʳ◌ ◌*ʳ◌ ◌+ᵛ◌ ◌*ᵛ◌ infinite_times is_zeroʳ leqʳ leqᵛ compareʳ
 one_turn_with_rules = refl
 
--- Were the guard counted among the rules of a loop, files with other sums would differ in rules alone.
+-- If the guard counted as a rule of a loop, files with other sums would differ only in rules.
 abbrev without_guard : Head → Head
 without_guard h = record (bare_head h) { guard = Cond.constant true }
 
@@ -82,7 +83,7 @@ no_turn : sum_after 2 (collecting (plain (Cond.not (Cond.flag 0)))) ≡ (pos 2, 
 unfolding runs weighted_sum scaled ratio gcd gcd_steps zeroʳ oneʳ zeroᵛ oneᵛ ◌+ʳ◌ ◌*ʳ◌ ◌+ᵛ◌ ◌*ᵛ◌ infinite_times is_zeroʳ leqʳ leqᵛ compareʳ
 no_turn = refl
 
--- ---- A step whose weights add up to less than 1 loses what was collected
+-- ---- A step whose weights have a sum below 1 loses a part of the reward
 
 abbrev drawing : List (Rational × Term) → TypedProcedure
 drawing qs = procedure (Act.reward (number 6) (place 1) ∷ Act.draw 0 qs (place 2) ∷ Act.set 0 truth (place 3) ∷ [])

@@ -1,4 +1,5 @@
--- What the laws of runs ask, at a fair coin: a file that satisfies the static rules, configurations that fit, a bound, and a violation.
+-- The requirements of the laws of runs, at a fair coin: a file that satisfies the static rules,
+-- configurations, a bound, and a violation.
 use Rattle.std.proofs.Common.{◌≡◌, ◌∙◌, ap, refl, Bool, true, false, List, [], ◌∷◌, Some, arith}
 use Rattle.heyvl_num.specs.Gcd.{gcd, gcd_steps}
 use Rattle.heyvl_num.specs.Rational.{ratio, zeroʳ, oneʳ, halfʳ, leqʳ, ◌≤ʳ◌, ◌+ʳ◌, ◌*ʳ◌}
@@ -38,7 +39,7 @@ truth b = Term.truth (Cond.constant b)
 abbrev flip : Act
 flip = Act.draw 0 ((halfʳ, truth true) ∷ (halfʳ, truth false) ∷ []) place
 
--- A fair coin, whose pre is this formula.
+-- A fair coin with the pre `pre`.
 abbrev coin : Form → TypedProcedure
 coin pre = record nobody { outputs = record { name = 1 ∷ []; ty = Ty.Bool } ∷ []; pre = pre; post = Form.iverson (Cond.flag 0); body = Some (Acts.next flip Acts.done) }
 
@@ -85,11 +86,13 @@ infinite_held = (refl, refl)
 abbrev unbounded : List TypedProcedure
 unbounded = coins (Form.number infinite)
 
--- A file that satisfies the rules and a typed state are what `BeginningsFit` and `SumsGrow` ask.
+-- `BeginningsFit` and `SumsGrow` require a file that satisfies the static rules, and a state with
+-- the right types.
 file_meets_the_rules : Each (MeetsRules unbounded) unbounded × IsState (coin (Form.number infinite)) start
 file_meets_the_rules = ((coin_meets (Form.number infinite) infinite_held (number_is_over infinite), tt), (refl, refl))
 
--- The first configuration fits and has an item, as `StepsKeepTheRules` and `RuledStepsWeighOne` ask.
+-- The first configuration satisfies the rules and has an item, as `StepsKeepTheRules` and
+-- `RuledStepsWeighOne` require.
 coin_fits : ConfigFits unbounded 0 (begin unbounded 0 start)
 coin_fits = record { here = refl; frames = tt; items = (((((record { no_input = omega arith; below = omega arith }), ((half_from_zero, (refl, refl)), ((half_from_zero, (refl, refl)), tt))), halves_weigh_one), tt), tt); state = (refl, refl) }
 
@@ -98,11 +101,11 @@ unfolding leqᵛ
 at_most_infinity (finite x) = record { holds = refl }
 at_most_infinity infinite = record { holds = refl }
 
--- Infinity bounds the coin, in a file that differs in no rule, as `RulesDoNotRun` asks.
+-- Infinity bounds the coin, in a file with the same rules, as `RulesDoNotRun` requires.
 infinity_bounds : (bare_procedures unbounded ≡ bare_procedures unbounded) × Bound unbounded 0
 infinity_bounds = (refl, λ s typed n t. at_most_infinity _)
 
--- After one step the coin is above a pre of 0, as `ViolationsRefute` asks.
+-- After one step the sum of the coin is above a pre of 0, as `ViolationsRefute` requires.
 coin_passes_zero : ((coin (Form.number zeroᵛ)).co ≡ true) × (IsState (coin (Form.number zeroᵛ)) start × (value (Form.number zeroᵛ) (environment start) Choices.stop <ᵛ sum_of true (Form.iverson (Cond.flag 0)) (runs (coins (Form.number zeroᵛ)) 1 (begin (coins (Form.number zeroᵛ)) 0 start) Tree.leaf)))
 unfolding runs weighted_sum scaled halfʳ ratio gcd gcd_steps zeroʳ oneʳ zeroᵛ oneᵛ ◌+ʳ◌ ◌*ʳ◌ ◌+ᵛ◌ ◌*ᵛ◌ leqʳ leqᵛ
 coin_passes_zero = (refl, ((refl, refl), record { holds = refl }))

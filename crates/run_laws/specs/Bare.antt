@@ -1,5 +1,5 @@
--- Procedures without the rules of their loops and without places: what runs depend on.
--- Source: this project's own.
+-- Bare procedures: without invariants and rankings of loops, and without places. Runs depend on no
+-- more. This project's own.
 use Rattle.std.specs.Prelude.{List, Option, Some, None, map}
 use Rattle.heyvl_num.specs.Rational.{Rational}
 use Rattle.heyvl_num.specs.Value.{zeroᵛ}
@@ -7,12 +7,12 @@ use Rattle.heyvl_places.specs.declared.spans.Span.{Span}
 use Rattle.heylo_formula.specs.Formula.{Form, Cond, Term}
 use Rattle.heyvl_acts.specs.Acts.{Head, Act, Acts, Arms, TypedProcedure}
 
--- No place.
+-- The one place of bare trees.
 abbrev pub nowhere : Span
 nowhere = record { from = 0; to = 0 }
 
 abbrev mutual
-  -- A formula without the places of its products.
+  -- The formula without the places of its products.
   pub bare_form : Form → Form
   bare_form (Form.number v) = Form.number v
   bare_form (Form.variable x) = Form.variable x
@@ -32,7 +32,7 @@ abbrev mutual
   bare_form (Form.select g a b) = Form.select (bare_cond g) (bare_form a) (bare_form b)
   bare_form (Form.bind up x name ty a) = Form.bind up x name ty (bare_form a)
 
-  -- The condition without its places.
+  -- The condition without places.
   pub bare_cond : Cond → Cond
   bare_cond (Cond.constant b) = Cond.constant b
   bare_cond (Cond.flag x) = Cond.flag x
@@ -45,21 +45,29 @@ abbrev mutual
   bare_cond (Cond.equal a b) = Cond.equal (bare_form a) (bare_form b)
   bare_cond (Cond.ite g h k) = Cond.ite (bare_cond g) (bare_cond h) (bare_cond k)
 
--- A term without places.
+-- The term without places.
 abbrev pub bare_term : Term → Term
 bare_term (Term.truth g) = Term.truth (bare_cond g)
 bare_term (Term.number f) = Term.number (bare_form f)
 
--- A part of a draw without places.
+-- The part of a draw without places.
 abbrev pub bare_part : Rational × Term → Rational × Term
 bare_part q = (q.0, bare_term q.1)
 
--- A loop without its rules: its number, its guard and its scope are left.
+-- The loop without its rules and its place; its number, its guard and its scope remain.
 abbrev pub bare_head : Head → Head
-bare_head h = record { number = h.number; k = 1; inv = Form.number zeroᵛ; guard = bare_cond h.guard; rank = None; scope = h.scope; span = nowhere }
+bare_head h = record {
+  number = h.number;
+  k = 1;
+  inv = Form.number zeroᵛ;
+  guard = bare_cond h.guard;
+  rank = None;
+  scope = h.scope;
+  span = nowhere;
+}
 
 abbrev mutual
-  -- The act without its places.
+  -- The act without places and rules of loops.
   pub bare_act : Act → Act
   bare_act (Act.set x t span) = Act.set x (bare_term t) nowhere
   bare_act (Act.draw x qs span) = Act.draw x (map bare_part qs) nowhere
@@ -73,25 +81,37 @@ abbrev mutual
   bare_act (Act.loop h b) = Act.loop (bare_head h) (bare b)
   bare_act (Act.call xs p es span) = Act.call xs p (map bare_term es) nowhere
 
-  -- The acts without their places.
+  -- The acts without places and rules of loops.
   pub bare : Acts → Acts
   bare Acts.done = Acts.done
   bare (Acts.next a rest) = Acts.next (bare_act a) (bare rest)
 
-  -- The arms without their places.
+  -- The arms without places and rules of loops.
   pub bare_arms : Arms → Arms
   bare_arms Arms.no_arm = Arms.no_arm
   bare_arms (Arms.arm g b more) = Arms.arm (bare_cond g) (bare b) (bare_arms more)
 
--- A body without rules of loops and without places, where there is one.
+-- The body, if there is one, without places and rules of loops.
 abbrev pub bare_body : Option Acts → Option Acts
 bare_body (Some acts) = Some (bare acts)
 bare_body None = None
 
--- A procedure without rules of loops and without places.
+-- The procedure without places and rules of loops.
 abbrev pub bare_procedure : TypedProcedure → TypedProcedure
-bare_procedure p = record { name = p.name; co = p.co; weak = p.weak; inputs = p.inputs; outputs = p.outputs; locals = p.locals; pre = bare_form p.pre; post = bare_form p.post; body = bare_body p.body; loops = p.loops; span = nowhere }
+bare_procedure p = record {
+  name = p.name;
+  co = p.co;
+  weak = p.weak;
+  inputs = p.inputs;
+  outputs = p.outputs;
+  locals = p.locals;
+  pre = bare_form p.pre;
+  post = bare_form p.post;
+  body = bare_body p.body;
+  loops = p.loops;
+  span = nowhere;
+}
 
--- All procedures of a file.
+-- All procedures of a file without places and rules of loops.
 abbrev pub bare_procedures : List TypedProcedure → List TypedProcedure
 bare_procedures ps = map bare_procedure ps

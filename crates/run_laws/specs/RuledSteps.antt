@@ -1,5 +1,4 @@
--- What each step keeps in a file that meets the rules.
--- Source: this project's own.
+-- What each step preserves in a file that satisfies the static rules. This project's own.
 use Rattle.std.specs.Prelude.{◌≡◌, ℕ, List, ◌∷◌}
 use Rattle.heyvl_num.specs.Rational.{oneʳ}
 use Rattle.heyvl_num.specs.WeightedSums.{total_weight}
@@ -12,14 +11,19 @@ use Rattle.run_machine.specs.Step.{Decision, step}
 use Rattle.run_laws.specs.EachOutcome.{EachOutcome}
 use Rattle.run_laws.specs.RuledConfigurations.{ConfigFits, Follows}
 
--- A run begins with a configuration that fits.
+-- The first configuration of a run satisfies the static rules.
 abbrev pub BeginningsFit : Type 0
-BeginningsFit = (ps : List TypedProcedure) (p : ℕ) → Each (MeetsRules ps) ps → (s : List Val) → IsState (procedure_at ps p) s → ConfigFits ps p (begin ps p s)
+BeginningsFit = (ps : List TypedProcedure) (p : ℕ) → Each (MeetsRules ps) ps → (s : List Val)
+    → IsState (procedure_at ps p) s → ConfigFits ps p (begin ps p s)
 
--- Each outcome of a step fits, no weight is negative and no reward has fallen.
+-- Each outcome of a step satisfies the static rules, no weight is negative, and no reward
+-- decreases.
 abbrev pub StepsKeepTheRules : Type 0
-StepsKeepTheRules = (ps : List TypedProcedure) (p : ℕ) → Each (MeetsRules ps) ps → (c : Config) → ConfigFits ps p c → (d : Decision) → EachOutcome (Follows ps p c.reward) (step ps c d)
+StepsKeepTheRules = (ps : List TypedProcedure) (p : ℕ) → Each (MeetsRules ps) ps → (c : Config)
+    → ConfigFits ps p c → (d : Decision) → EachOutcome (Follows ps p c.reward) (step ps c d)
 
--- The weights of a step add up to 1, where the run has not ended.
+-- The weights of a step have the sum 1, if the run has not terminated.
 abbrev pub RuledStepsWeighOne : Type 0
-RuledStepsWeighOne = (ps : List TypedProcedure) (p : ℕ) → Each (MeetsRules ps) ps → (c : Config) → ConfigFits ps p c → (i : Item) (is : List Item) → c.items ≡ i ∷ is → (d : Decision) → total_weight (step ps c d) ≡ oneʳ
+RuledStepsWeighOne = (ps : List TypedProcedure) (p : ℕ) → Each (MeetsRules ps) ps → (c : Config)
+    → ConfigFits ps p c → (i : Item) (is : List Item) → c.items ≡ i ∷ is → (d : Decision)
+    → total_weight (step ps c d) ≡ oneʳ

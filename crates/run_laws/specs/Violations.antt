@@ -1,5 +1,5 @@
--- What runs say of files that differ in the rules of loops alone, and what a violation by runs says.
--- Source: this project's own.
+-- Runs of files that differ only in the rules of loops and in places, and violations of a bound by
+-- runs. This project's own.
 use Rattle.std.specs.Prelude.{◌≡◌, ℕ, Bool, true, List}
 use Rattle.heyvl_num.specs.Value.{◌<ᵛ◌}
 use Rattle.heylo_formula.specs.Choices.{Choices}
@@ -14,14 +14,25 @@ use Rattle.run_machine.specs.Scheduler.{Tree}
 use Rattle.run_machine.specs.Sums.{sum_of}
 use Rattle.run_laws.specs.Bare.{bare_procedures}
 
--- The sums of a file's runs are those of the file without rules of loops and without places.
+-- The sums over the runs of a file are those of the bare file, which has neither rules of loops nor
+-- places.
 abbrev pub SumsAreBare : Type 0
-SumsAreBare = (ps : List TypedProcedure) (up : Bool) (p n : ℕ) (s : List Val) (t : Tree) → sum_of up (procedure_at ps p).post (runs ps n (begin ps p s) t) ≡ sum_of up (procedure_at (bare_procedures ps) p).post (runs (bare_procedures ps) n (begin (bare_procedures ps) p s) t)
+SumsAreBare = (ps : List TypedProcedure) (up : Bool) (p n : ℕ) (s : List Val) (t : Tree)
+    → sum_of up (procedure_at ps p).post (runs ps n (begin ps p s) t)
+    ≡ sum_of up (procedure_at (bare_procedures ps) p).post
+    (runs (bare_procedures ps) n (begin (bare_procedures ps) p s) t)
 
--- Files that differ in the rules of their loops, and in places, alone have the same runs, and so the same bounds.
+-- If a bound holds in a file, it holds in each file with the same bare file, since the runs are the
+-- same.
 abbrev pub RulesDoNotRun : Type 0
-RulesDoNotRun = (ps qs : List TypedProcedure) → bare_procedures ps ≡ bare_procedures qs → (p : ℕ) → Bound qs p → Bound ps p
+RulesDoNotRun = (ps qs : List TypedProcedure) → bare_procedures ps ≡ bare_procedures qs → (p : ℕ)
+    → Bound qs p → Bound ps p
 
--- A sum of a coproc's runs that is above its pre refutes the bound in each such file.
+-- If a sum over the runs of a coproc is above its pre, its bound holds in no file with the same
+-- bare file.
 abbrev pub ViolationsRefute : Type 0
-ViolationsRefute = (ps qs : List TypedProcedure) → bare_procedures ps ≡ bare_procedures qs → (p : ℕ) → (procedure_at ps p).co ≡ true → (s : List Val) → IsState (procedure_at ps p) s → (n : ℕ) (t : Tree) → value (procedure_at ps p).pre (environment s) Choices.stop <ᵛ sum_of true (procedure_at ps p).post (runs ps n (begin ps p s) t) → Bound qs p → ⊥
+ViolationsRefute = (ps qs : List TypedProcedure) → bare_procedures ps ≡ bare_procedures qs → (p : ℕ)
+    → (procedure_at ps p).co ≡ true → (s : List Val) → IsState (procedure_at ps p) s
+    → (n : ℕ) (t : Tree)
+    → value (procedure_at ps p).pre (environment s) Choices.stop <ᵛ sum_of true
+    (procedure_at ps p).post (runs ps n (begin ps p s) t) → Bound qs p → ⊥

@@ -1,4 +1,4 @@
-//! Laws of runs: what steps keep, sums that grow, and what runs do not depend on.
+//! Laws of runs: what steps preserve, sums that grow, and what runs do not depend on.
 #![tactic(auto)]
 
 mod laws;

@@ -1,4 +1,5 @@
--- Sums over runs do not fall: by the number of steps, one step more adds to no run less than nothing.
+-- Sums over runs do not decrease: by induction on the number of steps, since one more step lowers
+-- the summand of no run.
 use Rattle.std.proofs.Common.{◌≡◌, ℕ, refl, sym, ap, ◌∙◌, subst, true, List, [], ◌∷◌}
 use Prim.Native.Nat.{zero, suc}
 use Rattle.heyvl_num.specs.Value.{Value, zeroᵛ, ◌+ᵛ◌, ◌*ᵛ◌, ◌≤ᵛ◌}
@@ -26,12 +27,12 @@ use Rattle.run_laws.proofs.exported.RuledSteps.{begins, item_kept, item_weighs}
 
 -- ---- Sums of the runs of outcomes
 
--- a sum whose parts are each at least that of the other
+-- Each part of one sum is at least that of the other.
 spread_grows : (post : Form) (P : Config → Type 0) (f g : Runner) → ((c : Config) (t : Tree) → P c → sum_of true post (f c t) ≤ᵛ sum_of true post (g c t)) → (xs : Outcomes) (ts : Forest) → EachOutcome P xs → sum_of true post (spread f xs ts) ≤ᵛ sum_of true post (spread g xs ts)
 spread_grows post P f g h [] ts a = ≤ᵛ_refl _
 spread_grows post P f g h (x ∷ xs) ts a = rw (sum-spread true post f x xs ts, sum-spread true post g x xs ts) (+ᵛ_mono _ _ _ _ (scale_mono x.0 _ _ a.0.0 (h x.1 (first ts) a.0.1)) (spread_grows post P f g h xs (rest ts) a.1))
 
--- a sum whose parts are each at least a value
+-- Each part of the sum is at least a value.
 spread_above : (post : Form) (P : Config → Type 0) (r : Value) (f : Runner) → ((c : Config) (t : Tree) → P c → r ≤ᵛ sum_of true post (f c t)) → (xs : Outcomes) (ts : Forest) → EachOutcome P xs → finite (total_weight xs) *ᵛ r ≤ᵛ sum_of true post (spread f xs ts)
 spread_above post P r f h [] ts a = rw (sum-none true post, total_weight-empty Config) (subst (λ u. u ≤ᵛ zeroᵛ) (sym (no_weight r)) zero-≤ᵛ-zero)
 spread_above post P r f h (x ∷ xs) ts a = rw (sum-spread true post f x xs ts, total_weight-cons x.0 x.1 xs, weights-* x.0 (total_weight xs) r a.0.0 (weights_held P xs a.1)) (+ᵛ_mono _ _ _ _ (scale_mono x.0 _ _ a.0.0 (h x.1 (first ts) a.0.1)) (spread_above post P r f h xs (rest ts) a.1))
@@ -42,7 +43,7 @@ module _ (ps : List TypedProcedure) (rules : Each (MeetsRules ps) ps) (p : ℕ) 
   abbrev Sum : ℕ → Config → Tree → Value
   Sum n c t = sum_of true (procedure_at ps p).post (runs ps n c t)
 
-  -- a configuration is worth its reward at least
+  -- The summand of a configuration is at least its reward.
   pub ended_held : (fs : List Frame) (is : List Item) (s : List Val) → ItemsFit ps p fs is → IsState (owner ps p fs) s → zeroᵛ ≤ᵛ ended true (procedure_at ps p).post is s
   ended_held [] [] s g st = posts_held ps ps rules p s st
   ended_held (f ∷ fs) [] s g st = absurd g
@@ -51,7 +52,6 @@ module _ (ps : List TypedProcedure) (rules : Each (MeetsRules ps) ps) (p : ℕ) 
   worth_held : (c : Config) → ConfigFits ps p c → c.reward ≤ᵛ worth true (procedure_at ps p).post c
   worth_held c h = ≤ᵛ-+ᵛ c.reward _ (ended_held c.frames c.items c.state h.items h.state)
 
-  -- where it goes on, the next step is worth its reward at least
   first_step : (i : Item) (is : List Item) (c : Config) (h : ConfigFits ps p c) → ItemsFit ps p c.frames (i ∷ is) → (t : Tree) → c.reward ≤ᵛ sum_of true (procedure_at ps p).post (spread (runs ps 0) (step_item ps i is c (decision t)) (under t))
   first_step i is c h g t =
       let xs = step_item ps i is c (decision t) in

@@ -1,4 +1,4 @@
--- What holds of each outcome, and what that says of sums and weights.
+-- Properties of each outcome, and their consequences for sums and weights.
 use Rattle.std.proofs.Common.{◌≡◌, sym, subst, List, [], ◌∷◌, ◌++◌}
 use Rattle.heyvl_num.specs.Rational.{Rational, zeroʳ, oneʳ, ◌≤ʳ◌}
 use Rattle.heyvl_num.specs.Value.{Value, zeroᵛ, ◌*ᵛ◌, ◌≤ᵛ◌}
@@ -25,12 +25,10 @@ pub all_more : {A : Type 0} (P Q : A → Type 0) → ((a : A) → P a → Q a) �
 all_more P Q f [] h = tt
 all_more P Q f (x ∷ xs) h = ((h.0.0, f x.1 h.0.1), all_more P Q f xs h.1)
 
--- sums of values of which each is at most the other
 pub sum_at_most : {A : Type 0} (f g : A → Value) (xs : List (Rational × A)) → EachOutcome (λ a. f a ≤ᵛ g a) xs → weighted_sum f xs ≤ᵛ weighted_sum g xs
 sum_at_most f g [] h = rw (weighted_sum-empty f, weighted_sum-empty g) (≤ᵛ_refl zeroᵛ)
 sum_at_most f g (x ∷ xs) h = rw (weighted_sum-cons f x.0 x.1 xs, weighted_sum-cons g x.0 x.1 xs) (+ᵛ_mono _ _ _ _ (scale_mono x.0 (f x.1) (g x.1) h.0.0 h.0.1) (sum_at_most f g xs h.1))
 
--- their weights together aren't negative
 pub weights_held : {A : Type 0} (P : A → Type 0) (xs : List (Rational × A)) → EachOutcome P xs → zeroʳ ≤ʳ total_weight xs
 weights_held {A = A} P [] a = subst (λ w. zeroʳ ≤ʳ w) (sym (total_weight-empty A)) (≤ʳ_refl zeroʳ)
 weights_held {A = A} P (x ∷ xs) a = subst (λ w. zeroʳ ≤ʳ w) (sym (total_weight-cons x.0 x.1 xs)) (+ʳ_nonnegative x.0 (total_weight xs) a.0.0 (weights_held P xs a.1))

@@ -1,4 +1,4 @@
--- What each step keeps holds of all runs.
+-- What each step preserves holds of all runs.
 use Rattle.std.proofs.Common.{◌≡◌, ℕ, refl, sym, subst, List, [], ◌∷◌}
 use Prim.Native.Nat.{zero, suc}
 use Rattle.heyvl_num.specs.Value.{Value, zeroᵛ, ◌≤ᵛ◌}
@@ -33,7 +33,6 @@ pub sum_from_zero : (f : Config → Value) (P : Config → Type 0) → ((c : Con
 sum_from_zero f P h [] a = subst (λ v. zeroᵛ ≤ᵛ v) (sym (weighted_sum-empty f)) zero-≤ᵛ-zero
 sum_from_zero f P h (x ∷ xs) a = subst (λ v. zeroᵛ ≤ᵛ v) (sym (weighted_sum-cons f x.0 x.1 xs)) (+ᵛ_nonnegative _ _ (scale_nonnegative x.0 (f x.1) a.0.0 (h x.1 a.0.1)) (sum_from_zero f P h xs a.1))
 
--- all runs lead to configurations that fit
 pub fit_kept : (ps : List TypedProcedure) (rules : Each (MeetsRules ps) ps) (p : ℕ) (c : Config) (i : Item) (is : List Item) → c.items ≡ i ∷ is → ConfigFits ps p c → (d : Decision) → EachOutcome (ConfigFits ps p) (step_item ps i is c d)
 fit_kept ps rules p c i is e h d = all_more (Follows ps p c.reward) (ConfigFits ps p) (λ a f. f.0) (step_item ps i is c d) (item_kept ps rules p is c h i (subst (ItemsFit ps p c.frames) e h.items) d)
 

@@ -1,5 +1,6 @@
--- Each step in a file that meets the rules leads to configurations whose states are typed, whose items are acts that meet the
--- rules of the procedure that runs, and whose reward has not fallen; and the weights of a step add up to 1.
+-- In a file that satisfies the static rules, each step leads to configurations whose states have
+-- the right types, whose items are acts that satisfy the rules of the procedure that runs, and
+-- whose reward has not decreased. The weights of a step have the sum 1.
 use Rattle.std.proofs.Common.{◌≡◌, ℕ, refl, sym, subst, Bool, true, false, cond, List, [], ◌∷◌, length}
 use Rattle.std.specs.Prelude.{set}
 use Prim.Native.Nat.{zero, suc}
@@ -54,7 +55,7 @@ module _ (ps : List TypedProcedure) (rules : Each (MeetsRules ps) ps) (start : �
 
   -- ---- One step
 
-  -- the items are one item and these
+  -- The items are one item and then `is`.
   module _ (is : List Item) (c : Config) (fit_c : ConfigFits ps start c) where
     st : IsState (owner ps start c.frames) c.state
     st = fit_c.state

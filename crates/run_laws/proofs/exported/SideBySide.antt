@@ -1,4 +1,4 @@
--- Two lists of outcomes, side by side: with equal weights, and outcomes that are related one by one.
+-- Two lists of outcomes, side by side: with equal weights, and related one by one.
 use Rattle.std.proofs.Common.{◌≡◌, ℕ, sym, ap₂, ◌∙◌, List, [], ◌∷◌}
 use Rattle.heyvl_num.specs.Value.{Value, ◌+ᵛ◌, ◌*ᵛ◌}
 use Rattle.heyvl_num.specs.Value.Value.{finite}
