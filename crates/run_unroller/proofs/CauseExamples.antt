@@ -1,5 +1,5 @@
--- What stops the steps of small programs under an empty script: for each cause, runs that it stops, and smaller ones that nothing
--- stops.
+-- Causes that stop the steps of small programs under an empty script: for each cause, runs that it
+-- stops, and smaller ones that nothing stops.
 use Rattle.std.specs.Option.{option_or}
 use Rattle.std.proofs.Common.{◌≡◌, ◌+◌, ◌≤◌, ◌<◌, subst, ℕ, suc, zero, refl, sym, ap, Bool, true, false, List, [], ◌∷◌, Some, None, pos, length, arith}
 use Rattle.std.specs.Prelude.{Option, replicate, nat_lt, if◌then◌else◌}
@@ -43,25 +43,26 @@ abbrev acts : List Act → Acts
 acts [] = Acts.done
 acts (a ∷ rest) = Acts.next a (acts rest)
 
--- A coproc with so many Boolean locals, this post and this body.
+-- A coproc with `n` Boolean locals, a post and a body.
 abbrev procedure : ℕ → Form → List Act → TypedProcedure
 procedure n post body = record nobody { locals = replicate n (variable Ty.Bool); post = post; body = Some (acts body) }
 
--- A state of n Booleans, all false.
+-- A state of `n` Booleans, all false.
 abbrev state : ℕ → List Val
 state n = replicate n (Truth false)
 
--- The first of m steps that is stopped, and its cause, where the runs begin in the state of n Booleans.
+-- The first of `m` steps that is stopped, and its cause, if the runs begin in the state of `n`
+-- Booleans.
 abbrev stop_of : TypedProcedure → ℕ → ℕ → Option (Cause × ℕ)
 stop_of p n m = first_stop (p ∷ []) [] m (begun (stored_begin (p ∷ []) 0 (state n)))
 
--- What unrolling gives after no step.
+-- The result of unrolling no steps.
 abbrev at_once : TypedProcedure → Unrolling
 at_once p = unrolled (p ∷ []) 0 [] 0 (begun (stored_begin (p ∷ []) 0 []))
 
 -- ---- Deep: more than 512 values
 
--- A procedure with n locals that calls itself.
+-- A procedure with `n` locals that calls itself.
 abbrev calls_itself : ℕ → TypedProcedure
 calls_itself n = procedure n (number 0) (Act.call [] 0 [] place ∷ [])
 
@@ -75,7 +76,7 @@ second_call_is_not_deep : stop_of (calls_itself 2) 2 2 ≡ None
 unfolding merged_onto joined scaled ratio gcd gcd_steps zeroʳ oneʳ zeroᵛ ◌*ʳ◌ leqʳ exact_product product_fits
 second_call_is_not_deep = refl
 
--- ---- Bits: a number that a step needs
+-- ---- Bits: a number in a step
 
 -- The largest number of 127 bits, plus 1.
 abbrev wide : Form
@@ -85,7 +86,7 @@ wide = Form.sum (number 170141183460469231731687303715884105727) (number 1)
 abbrev collects : Form → TypedProcedure
 collects f = procedure 0 (number 0) (Act.reward f place ∷ [])
 
--- A reward that does not fit stops its step.
+-- A reward that overflows stops its step.
 wide_reward_stops : stop_of (collects wide) 0 1 ≡ Some (Bits, 1)
 unfolding merged_onto joined scaled ratio gcd gcd_steps zeroʳ oneʳ zeroᵛ ◌*ʳ◌ ◌+ʳ◌ ◌+ᵛ◌ exact_sum sum_fits exact_product product_fits
 wide_reward_stops = refl
@@ -97,7 +98,7 @@ small_reward_does_not_stop = refl
 
 -- ---- Bits: the product of a run's weight with that of an outcome
 
--- A procedure that draws two Booleans, each by these weights.
+-- A procedure that draws two Booleans, each with these weights.
 abbrev draws : Rational → Rational → TypedProcedure
 draws w v = procedure 2 (number 0) (draw 0 ∷ draw 1 ∷ [])
   where
@@ -114,7 +115,7 @@ even_weights_do_not_stop : stop_of (draws halfʳ halfʳ) 2 2 ≡ None
 unfolding merged_onto joined scaled halfʳ ratio gcd gcd_steps zeroʳ oneʳ zeroᵛ ◌*ʳ◌ exact_product product_fits
 even_weights_do_not_stop = refl
 
--- ---- Bits: the weights of merged runs, together
+-- ---- Bits: the sum of the weights of merged runs
 
 -- A procedure that tosses one variable twice, with this probability.
 abbrev tosses : Rational → TypedProcedure
@@ -123,7 +124,8 @@ tosses w = procedure 1 (number 0) (toss ∷ toss ∷ [])
     toss : Act
     toss = Act.toss 0 (Form.number (finite w)) place
 
--- The weights of the two runs that end in true have the denominator (2^62 - 1)^2: their sum stops the second toss.
+-- The weights of the two runs with the value true have the denominator (2^62 - 1)^2: their sum
+-- stops the second toss.
 merged_weights_stop : stop_of (tosses (ratio (pos 1) 4611686018427387903)) 1 2 ≡ Some (Bits, 2)
 unfolding merged_onto joined scaled ratio gcd gcd_steps zeroʳ oneʳ zeroᵛ oneᵛ negʳ minᵛ leqʳ leqᵛ compareʳ ◌*ʳ◌ ◌+ʳ◌ ◌-ʳ◌ exact_sum sum_fits exact_difference difference_fits exact_product product_fits exact_order order_fits
 merged_weights_stop = refl
@@ -133,9 +135,9 @@ even_tosses_do_not_stop : stop_of (tosses halfʳ) 1 2 ≡ None
 unfolding merged_onto joined scaled halfʳ ratio gcd gcd_steps zeroʳ oneʳ zeroᵛ oneᵛ negʳ minᵛ leqʳ leqᵛ compareʳ ◌*ʳ◌ ◌+ʳ◌ ◌-ʳ◌ exact_sum sum_fits exact_difference difference_fits exact_product product_fits exact_order order_fits
 even_tosses_do_not_stop = refl
 
--- ---- Bits: the final adding
+-- ---- Bits: adding the sums
 
--- A post that does not fit stops the final adding.
+-- A post that overflows stops the adding.
 wide_post_stops : at_once (procedure 0 wide []) ≡ Unrolling.stopped Bits 1
 unfolding merged_onto joined scaled ratio gcd gcd_steps zeroʳ oneʳ zeroᵛ ◌*ʳ◌ ◌+ʳ◌ ◌*ᵛ◌ ◌+ᵛ◌ infinite_times is_zeroʳ exact_sum sum_fits exact_product product_fits
 wide_post_stops = refl
@@ -151,7 +153,7 @@ small_post_does_not_stop cause n e = cc
 abbrev ended : ℕ → Stored
 ended n = record { procedure = 0; items = []; state = []; frames = []; reward = zeroᵛ; turns = []; made = n }
 
--- n terminated runs of weight w, after k, k + 1 and more decisions.
+-- `n` terminated runs of the weight `w`, after `k`, `k` + 1 and more decisions.
 listed : Rational → ℕ → ℕ → RunList
 listed w k zero = []
 listed w k (suc n) = (w, ended k) ∷ listed w (suc k) n
@@ -186,7 +188,7 @@ unfolding listed
 put_last w k zero m e = let is : m ≡ k = omega arith in ap (λ i. (w, ended i) ∷ []) is
 put_last w k (suc n) m e = otherwise (same_stored (ended m) (ended k)) _ _ _ (apart m k (λ d. absurd (omega arith))) (ap (λ es. (w, ended k) ∷ es) (put_last w (suc k) n m (omega arith)))
 
--- What stops a run of weight 1 that joins a list without an equal one.
+-- The cause that stops a run of weight 1 from being added to a list without an equal one.
 join_by : (es : RunList) (c : Stored) (o : Option Cause) → held same_stored c es ≡ None → put_cause (length es) (oneʳ *ʳ oneʳ) None ≡ o → join_cause es oneʳ (oneʳ, c) ≡ o
 unfolding exact_product product_fits oneʳ ratio gcd gcd_steps
 join_by es c o h p = subst (λ x. put_cause (length es) (oneʳ *ʳ oneʳ) x ≡ o) (sym h) p
@@ -225,10 +227,10 @@ unfolding listed
 overfill zero k h = last_is_full (listed (oneʳ *ʳ oneʳ) 0 k) (ended k) (join_by (listed (oneʳ *ʳ oneʳ) 0 k) (ended k) (Some Full) (none_held (oneʳ *ʳ oneʳ) 0 k k (omega arith)) (no_room_for (length (listed (oneʳ *ʳ oneʳ) 0 k)) (oneʳ *ʳ oneʳ) (omega (arith, listed_length (oneʳ *ʳ oneʳ) 0 k, h))))
 overfill (suc n) k h = one_more (suc n) k (Some Full) (omega arith) (overfill n (suc k) (omega arith))
 
--- 65,537 different terminated runs are one too many for a list.
+-- 65,537 different terminated runs are more than a list may have.
 one_run_more_stops : step_cause [] [] (listed oneʳ 0 65537) ≡ Some Full
 one_run_more_stops = subst (λ es. first_cause es (all_brought [] [] (listed oneʳ 0 65537)) ≡ Some Full) (none_listed (oneʳ *ʳ oneʳ)) (overfill 65536 0 refl)
 
--- 65,536 of them are not too many.
+-- 65,536 of them are allowed.
 as_many_runs_do_not_stop : step_cause [] [] (listed oneʳ 0 65536) ≡ None
 as_many_runs_do_not_stop = subst (λ es. first_cause es (all_brought [] [] (listed oneʳ 0 65536)) ≡ None) (none_listed (oneʳ *ʳ oneʳ)) (fit 65536 0 (omega arith))

@@ -1,4 +1,4 @@
--- Worked runs under scripts, computed by the definitions.
+-- Worked runs under scripts, computed by evaluating the definitions.
 use Rattle.std.proofs.Common.{◌≡◌, ℕ, refl, Bool, true, false, List, [], ◌∷◌, Some, None, pos, map}
 use Rattle.std.specs.Prelude.{ℤ}
 use Rattle.heyvl_num.specs.Gcd.{gcd, gcd_steps}
@@ -31,7 +31,7 @@ parts infinite = (pos 1, 0)
 abbrev fraction : Rational → ℤ × ℕ
 fraction x = (x.num, x.den)
 
--- The post, the reward, the weight of what is running, and the turns of each loop.
+-- The post, the reward, the mass not yet terminated, and the expected iterations of each loop.
 abbrev shown : Unrolling → List (ℤ × ℕ)
 shown (Unrolling.sums t) = parts t.post ∷ parts t.reward ∷ fraction t.running ∷ map fraction t.turns
 shown (Unrolling.stopped cause n) = []
@@ -61,7 +61,7 @@ abbrev acts : List Act → Acts
 acts [] = Acts.done
 acts (a ∷ rest) = Acts.next a (acts rest)
 
--- A procedure with so many loops.
+-- A procedure with `n` loops.
 abbrev procedure : ℕ → List Ty → List Ty → List Ty → Form → List Act → TypedProcedure
 procedure n ins outs locals post body = record { name = []; co = true; weak = false; inputs = map variable ins; outputs = map variable outs; locals = map variable locals; pre = number 0; post = post; body = Some (acts body); loops = n; span = place }
 
@@ -136,7 +136,7 @@ one_run_has_ended : after_steps 3 (branching ∷ []) (uint 0 ∷ uint 0 ∷ Trut
 unfolding merged_onto joined scaled halfʳ ratio gcd gcd_steps zeroʳ oneʳ zeroᵛ oneᵛ ◌+ʳ◌ ◌*ʳ◌ ◌-ʳ◌ ◌+ᵛ◌ ◌*ᵛ◌ infinite_times is_zeroʳ leqʳ leqᵛ compareʳ exact_sum sum_fits exact_product product_fits exact_order order_fits
 one_run_has_ended = refl
 
--- ---- Two loops, with one turn and with two, and a reward in the second one
+-- ---- Two loops, with one iteration and with two, and a reward in the second one
 
 abbrev loops_twice : TypedProcedure
 loops_twice = procedure 2 [] (Ty.UInt ∷ []) (Ty.Bool ∷ []) (Form.variable 0) (Act.set 1 (truth true) place ∷ Act.loop (head 1 (Cond.flag 1)) (acts (Act.set 1 (truth false) place ∷ [])) ∷ Act.loop (head 2 (Cond.lt (Form.variable 0) (number 2))) (acts (Act.set 0 (plus_one 0) place ∷ Act.reward (number 5) place ∷ [])) ∷ [])
@@ -149,9 +149,9 @@ second_loop_under_way : after_steps 6 (loops_twice ∷ []) (uint 0 ∷ Truth fal
 unfolding merged_onto joined scaled halfʳ ratio gcd gcd_steps zeroʳ oneʳ zeroᵛ oneᵛ ◌+ʳ◌ ◌*ʳ◌ ◌-ʳ◌ ◌+ᵛ◌ ◌*ᵛ◌ infinite_times is_zeroʳ leqʳ leqᵛ compareʳ exact_sum sum_fits exact_product product_fits exact_order order_fits
 second_loop_under_way = refl
 
--- ---- Equal runs are one
+-- ---- Equal runs are merged
 
--- The weights of the list, each with the number of decisions that were asked for.
+-- The weights of the list, each with the number of decisions asked for.
 abbrev weights_after : ℕ → TypedProcedure → List Val → List ((ℤ × ℕ) × ℕ)
 weights_after n p s = map (λ x. (fraction x.0, x.1.made)) (after (p ∷ []) [] n (begun (stored_begin (p ∷ []) 0 s)))
 
@@ -167,7 +167,8 @@ two_variables : weights_after 2 (flip_twice 1) (Truth false ∷ Truth false ∷ 
 unfolding merged_onto joined scaled halfʳ ratio gcd gcd_steps zeroʳ oneʳ zeroᵛ oneᵛ ◌+ʳ◌ ◌*ʳ◌ ◌-ʳ◌ ◌+ᵛ◌ ◌*ᵛ◌ infinite_times is_zeroʳ leqʳ leqᵛ compareʳ exact_sum sum_fits exact_product product_fits exact_order order_fits
 two_variables = refl
 
--- With the probabilities 1/4, 1/2 and 1/4 of 1, 2 and 1: the first place of 1 is kept, with 1/2 of weight.
+-- With the probabilities 1/4, 1/2 and 1/4 of 1, 2 and 1: the runs with 1 are merged at the first
+-- place, with the weight 1/2.
 abbrev quarter : Rational
 quarter = ratio (pos 1) 4
 
@@ -181,7 +182,8 @@ first_place_is_kept : values_after 1 place_kept (uint 0 ∷ []) ≡ ((pos 1, 2),
 unfolding merged_onto joined scaled halfʳ ratio gcd gcd_steps zeroʳ oneʳ zeroᵛ oneᵛ ◌+ʳ◌ ◌*ʳ◌ ◌-ʳ◌ ◌+ᵛ◌ ◌*ᵛ◌ infinite_times is_zeroʳ leqʳ leqᵛ compareʳ exact_sum sum_fits exact_product product_fits exact_order order_fits
 first_place_is_kept = refl
 
--- After heads x is asked for, after tails it is set to the same: the runs were asked for different numbers of decisions.
+-- After heads x is asked for, after tails it is set to the same value: the runs have different
+-- numbers of decisions.
 abbrev asked_or_set : TypedProcedure
 asked_or_set = procedure 0 [] (Ty.UInt ∷ []) (Ty.Bool ∷ []) (Form.variable 0) (Act.draw 1 flip place ∷ Act.ifs (Arms.arm (Cond.flag 1) (acts (Act.set 1 (truth false) place ∷ take_any 0 ∷ [])) Arms.no_arm) (acts (Act.set 1 (truth false) place ∷ Act.set 0 (Term.number (number 0)) place ∷ [])) place ∷ [])
 
@@ -201,7 +203,8 @@ an_equal_run_needs_no_room : put_cause 65536 halfʳ (Some halfʳ) ≡ None
 unfolding merged_onto joined scaled halfʳ ratio gcd gcd_steps zeroʳ oneʳ zeroᵛ oneᵛ ◌+ʳ◌ ◌*ʳ◌ ◌-ʳ◌ ◌+ᵛ◌ ◌*ᵛ◌ infinite_times is_zeroʳ leqʳ leqᵛ compareʳ exact_sum sum_fits exact_product product_fits exact_order order_fits
 an_equal_run_needs_no_room = refl
 
--- 1 / 2^64 and 1 / (2^64 - 1) have no sum, since the product of the denominators is above 2^127.
+-- 1 / 2^64 and 1 / (2^64 - 1) have no exact sum, since the product of the denominators is above
+-- 2^127.
 narrow_sums_only : put_cause 1 (ratio (pos 1) 18446744073709551616) (Some (ratio (pos 1) 18446744073709551615)) ≡ Some Bits
 unfolding merged_onto joined scaled halfʳ ratio gcd gcd_steps zeroʳ oneʳ zeroᵛ oneᵛ ◌+ʳ◌ ◌*ʳ◌ ◌-ʳ◌ ◌+ᵛ◌ ◌*ᵛ◌ infinite_times is_zeroʳ leqʳ leqᵛ compareʳ exact_sum sum_fits exact_product product_fits exact_order order_fits
 narrow_sums_only = refl

@@ -1,4 +1,4 @@
--- Procedures by number, and numbers of turns.
+-- Procedures by number, and counts of iterations.
 use Rattle.std.proofs.Common.{◌≡◌, ℕ, ◌<◌, ◌≤◌, ◌^◌, refl, ap, sym, arith, List, [], ◌∷◌, length, map, get_or, true, ◌&&◌}
 use Rattle.std.specs.Prelude.{Some, None, pos, nat_lt, if◌then◌else◌}
 use Prim.Native.Nat.{zero, suc}
@@ -20,7 +20,6 @@ past_all [] p over = refl
 past_all (y ∷ xs) zero over = absurd (omega (arith, over))
 past_all (y ∷ xs) (suc p) over = past_all xs p (omega (arith, over))
 
--- A whole number is a fraction.
 pub whole_quotient : (n : ℕ) → nat_lt n (2 ^ 127) ≡ true → exact_quotient (pos n) (pos 1) ≡ Some (ratio (pos n) 1)
 unfolding exact_quotient quotient_fits quotient
 whole_quotient n l = ap (λ b. if (true && b && nat_lt 1 (2 ^ 127)) then Some (ratio (pos n) 1) else None) l

@@ -1,4 +1,4 @@
--- A step's list is too long exactly where Full is what stops it.
+-- A step's list is too long exactly if `Full` stops the step.
 use Rattle.std.proofs.Common.{◌≡◌, ◌<◌, ◌≤◌, ◌∙◌, refl, sym, ap, subst, arith, Bool, true, false, List, [], ◌∷◌, ◌++◌, length, map}
 use Rattle.std.specs.Option.{option_or}
 use Rattle.std.specs.Prelude.{Option, Some, None, is_some, nat_lt, if◌then◌else◌}
@@ -20,13 +20,12 @@ use Rattle.run_unroller.specs.MergedLists.{held, merged_onto, put}
 use Rattle.run_unroller.specs.RunLists.{RunList, follow, followed}
 use Rattle.run_unroller.specs.Scripts.{entry}
 
--- ---- Lengths of lists that one more joins
+-- ---- Lengths of lists to which a run is added
 
 put_length_at : {A : Type 0} (b : Bool) (x e : Rational × A) (es more : List (Rational × A)) (h : Option Rational) → (h ≡ None → length more ≡ suc (length es)) → ((if b then Some e.0 else h) ≡ None) → length (if b then (e.0 +ʳ x.0, e.1) ∷ es else e ∷ more) ≡ suc (suc (length es))
 put_length_at true x e es more h k n = absurd (cc)
 put_length_at false x e es more h k n = ap (λ m. suc m) (k n)
 
--- One that isn't there yet makes the list longer by one.
 put_new : {A : Type 0} (same : A → A → Bool) (x : Rational × A) (es : List (Rational × A)) → held same x.1 es ≡ None → length (put same x es) ≡ suc (length es)
 put_new same x [] n = refl
 put_new same x (e ∷ es) n = put_length_at (same x.1 e.1) x e es (put same x es) (held same x.1 es) (put_new same x es) n
@@ -35,7 +34,6 @@ put_same_at : {A : Type 0} (b : Bool) (x e : Rational × A) (es more : List (Rat
 put_same_at true x e es more h v k n = refl
 put_same_at false x e es more h v k n = ap (λ m. suc m) (k n)
 
--- One that is there keeps the length.
 put_there : {A : Type 0} (same : A → A → Bool) (x : Rational × A) (es : List (Rational × A)) (v : Rational) → held same x.1 es ≡ Some v → length (put same x es) ≡ length es
 put_there same x [] v n = absurd (cc)
 put_there same x (e ∷ es) v n = put_same_at (same x.1 e.1) x e es (put same x es) (held same x.1 es) v (put_there same x es v) n
@@ -60,9 +58,9 @@ onto_nothing : {A : Type 0} (same : A → A → Bool) (es : List (Rational × A)
 unfolding merged_onto
 onto_nothing same es = refl
 
--- ---- What is brought, and what joins
+-- ---- Contributions
 
--- What is brought joins as these outcomes do, up to where it is stopped, and not by Full.
+-- The contributions are these outcomes, up to the first cause, which is not `Full`.
 data Joins : List Brought → RunList → Type 0 where
   done : Joins [] []
   stopped : (c : Cause) (more : List Brought) (xs : RunList) → (c ≡ Full → ⊥) → Joins (Brought.stops c ∷ more) xs
@@ -95,7 +93,7 @@ all_join ps script (x ∷ xs) = joins_more (brought ps script x.1.items x.0 x.1)
 
 -- ---- One outcome
 
--- A run that makes the list full is a new one, where 65,536 are there.
+-- A run that makes the list too long is a new one, after 65,536 others.
 record IsOneMore (es : RunList) (c : Stored) : Type 0 where
   none : held same_stored c es ≡ None
   many : 65536 ≤ length es
@@ -116,7 +114,6 @@ full_product : (es : RunList) (c : Stored) (o : Option Rational) → product_cau
 full_product es c None f = absurd (cc)
 full_product es c (Some w) f = full_put es c w (held same_stored c es) refl f
 
--- Where nothing stops a run, it is there already, or there is room.
 short_put : (es : RunList) (c : Stored) (v w : Rational) (h : Option Rational) → held same_stored c es ≡ h → put_cause (length es) w h ≡ None → length es ≤ 65536 → length (put same_stored (v, c) es) ≤ 65536
 short_put es c v w (Some u) e f l = let k = put_there same_stored (v, c) es u e in omega (arith, k, l)
 short_put es c v w None e f l = go (nat_lt (length es) 65536) refl f

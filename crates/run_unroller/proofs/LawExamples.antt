@@ -1,4 +1,5 @@
--- What the laws of unrolled runs ask, at a fair coin: a file that satisfies the static rules, a typed state, and sums.
+-- The requirements of the laws of unrolled runs, at a fair coin: a file that satisfies the static
+-- rules, a state with the right types, and sums.
 use Rattle.std.proofs.Common.{◌≡◌, ◌∙◌, ap, ◌≤◌, ℕ, refl, subst, Bool, true, false, List, [], ◌∷◌, Some, None, arith}
 use Rattle.std.specs.Prelude.{Option}
 use Rattle.heyvl_num.specs.Exact.{exact_sum, sum_fits, exact_product, product_fits}
@@ -38,7 +39,7 @@ truth b = Term.truth (Cond.constant b)
 abbrev flip : Act
 flip = Act.draw 0 ((halfʳ, truth true) ∷ (halfʳ, truth false) ∷ []) place
 
--- A fair coin, whose pre is this formula.
+-- A fair coin with the pre `pre`.
 abbrev coin : Form → TypedProcedure
 coin pre = record nobody { outputs = record { name = 1 ∷ []; ty = Ty.Bool } ∷ []; pre = pre; post = Form.iverson (Cond.flag 0); body = Some (Acts.next flip Acts.done) }
 
@@ -86,7 +87,8 @@ one_held = (refl, refl)
 abbrev file : List TypedProcedure
 file = coins (Form.number oneᵛ)
 
--- A file that satisfies the rules, a typed state and two numbers of steps are what `ScriptedSumsGrow` asks.
+-- `ScriptedSumsGrow` requires a file that satisfies the static rules, a state with the right types,
+-- and two numbers of steps.
 file_meets_the_rules : Each (MeetsRules file) file × (IsState (coin (Form.number oneᵛ)) start × (1 ≤ 2))
 file_meets_the_rules = ((coin_meets (Form.number oneᵛ) one_held (number_is_over oneᵛ), tt), ((refl, refl), omega arith))
 
@@ -95,7 +97,7 @@ reaches_none : (n q : ℕ) → n ≡ 0 → Reaches file n q → ⊥
 reaches_none _ _ e (Reaches.directly n q c) = absurd (let k = subst (λ m. Calls file m q) e c in cc)
 reaches_none _ _ e (Reaches.onward n m q c w) = absurd (let k = subst (λ i. Calls file i m) e c in cc)
 
--- The coin reaches programs alone, as `UnrolledSumsAreMeant` asks.
+-- The coin reaches only programs, as `UnrolledSumsAreMeant` requires.
 coin_reaches_programs : ReachesPrograms file 0
 coin_reaches_programs = record { itself = refl; reached = λ q w. absurd (reaches_none 0 q refl w) }
 
@@ -109,7 +111,7 @@ abbrev sums_in : Unrolling → Totals
 sums_in (Unrolling.sums t) = t
 sums_in (Unrolling.stopped cause n) = no_totals
 
--- Nothing stops its first step, as `UnrolledSumsAreMeant` asks.
+-- Nothing stops its first step, as `UnrolledSumsAreMeant` requires.
 coin_has_sums : unrolled file 0 [] 1 (begun first) ≡ Unrolling.sums (sums_in (unrolled file 0 [] 1 (begun first)))
 unfolding merged_onto joined scaled halfʳ ratio gcd gcd_steps zeroʳ oneʳ zeroᵛ oneᵛ ◌+ʳ◌ ◌*ʳ◌ ◌-ʳ◌ ◌+ᵛ◌ ◌*ᵛ◌ infinite_times is_zeroʳ leqʳ leqᵛ compareʳ exact_sum sum_fits exact_product product_fits
 coin_has_sums = refl
@@ -118,11 +120,11 @@ abbrev or_none : Option Totals → Totals
 or_none (Some t) = t
 or_none None = no_totals
 
--- Its runs have totals, as `TotalsAreSums` asks.
+-- Its runs have totals, as `TotalsAreSums` requires.
 coin_has_totals : totals (coin (Form.number oneᵛ)) (after file [] 1 (begun first)) ≡ Some (or_none (totals (coin (Form.number oneᵛ)) (after file [] 1 (begun first))))
 unfolding merged_onto joined scaled halfʳ ratio gcd gcd_steps zeroʳ oneʳ zeroᵛ oneᵛ ◌+ʳ◌ ◌*ʳ◌ ◌-ʳ◌ ◌+ᵛ◌ ◌*ᵛ◌ infinite_times is_zeroʳ leqʳ leqᵛ compareʳ exact_sum sum_fits exact_product product_fits
 coin_has_totals = refl
 
--- Its first configuration satisfies the condition that `ListsAreRuns` asks for.
+-- Its first configuration satisfies the condition that `ListsAreRuns` requires.
 coin_begins : IsConfig file first
 coin_begins = record { running = 0; lists = (refl, (((refl, record { act = flip; named = refl; runs = (tt, tt) }), tt), (refl, refl))); turns = refl }

@@ -1,4 +1,4 @@
--- Sums over the list after n steps are those over the runs under the script's scheduler.
+-- Sums over the list after `n` steps are those over the runs under the script's scheduler.
 use Rattle.std.proofs.Common.{◌≡◌, ℕ, ◌+◌, refl, ap, ap₂, sym, ◌∙◌, List, [], ◌∷◌}
 use Prim.Native.Nat.{zero, suc}
 use Rattle.heyvl_num.specs.Rational.{Rational, oneʳ}
@@ -39,7 +39,6 @@ sum_same : {A : Type 0} (P : A → Type 0) (f g : A → Value) → ((a : A) → 
 sum_same P f g h [] q = weighted_sum-empty f ∙ sym (weighted_sum-empty g)
 sum_same P f g h (x ∷ xs) q = weighted_sum-cons f x.0 x.1 xs ∙ ap₂ (λ u v. (finite x.0 *ᵛ u) +ᵛ v) (h x.1 q.0.1) (sum_same P f g h xs q.1) ∙ sym (weighted_sum-cons g x.0 x.1 xs)
 
--- A run that has ended stays.
 stays : (ps : List TypedProcedure) (n : ℕ) (c : Config) (t : Tree) → c.items ≡ [] → runs ps n c t ≡ sure c
 stays ps zero c t e = runs-zero ps c t
 stays ps (suc n) c t e = runs-next ps n c t ∙ ap (λ is. onward ps (runs ps n) is c t) e
@@ -62,7 +61,6 @@ module _ (ps : List TypedProcedure) (rules : Each (MeetsRules ps) ps) (script : 
   joined_configs : (rs : RunList) → EachOutcome (IsConfig ps) rs → EachOutcome (IsConfig ps) (joined (follow ps script) rs)
   joined_configs rs q = joined_kept (IsConfig ps) (IsConfig ps) (follow ps script) follow_configs rs q
 
-  -- The first step comes first.
   first_step : (n : ℕ) (rs : RunList) → after ps script (suc n) rs ≡ after ps script n (after_step ps script rs)
   first_step zero rs = refl
   first_step (suc n) rs = ap (after_step ps script) (first_step n rs)
@@ -79,7 +77,6 @@ module _ (ps : List TypedProcedure) (rules : Each (MeetsRules ps) ps) (script : 
         ∙ ap₂ (λ m v. (finite x.0 *ᵛ weighted_sum f (runs ps n (config_of ps x.1) (scripted ps script n m (config_of ps x.1)))) +ᵛ v) (sym h.0.asks) (spreads n made xs h.1)
         ∙ sym (weighted_sum-cons (summed n) x.0 x.1 xs)
 
-    -- One step more of a configuration.
     one_more : (n : ℕ) (c : Stored) → IsConfig ps c → weighted_sum (summed n) (follow ps script c) ≡ summed (suc n) c
     one_more n c h = go c.items refl
       where

@@ -1,4 +1,4 @@
--- Merging changes no sum, as long as no weight is negative.
+-- Merging changes no sum, if no weight is negative.
 use Rattle.std.proofs.Common.{◌≡◌, List, [], ◌∷◌, Bool, true, false, if◌then◌else◌, refl, sym, ap, ◌∙◌}
 use Rattle.heyvl_num.specs.Rational.{Rational, zeroʳ, ◌+ʳ◌, ◌≤ʳ◌}
 use Rattle.heyvl_num.specs.Value.{Value, ◌+ᵛ◌, ◌*ᵛ◌}
@@ -14,7 +14,7 @@ use Rattle.run_unroller.specs.MergedLists.{merged, merged_onto, put}
 swap_left : (x y z : Value) → (x +ᵛ y) +ᵛ z ≡ y +ᵛ (x +ᵛ z)
 swap_left x y z = ap (λ v. v +ᵛ z) (+ᵛ_comm x y) ∙ +ᵛ_assoc y x z
 
--- ---- What holds of each
+-- ---- Properties of each element
 
 put_one : {A : Type 0} (P : A → Type 0) (b : Bool) (x e : Rational × A) (es more : List (Rational × A)) → zeroʳ ≤ʳ x.0 → (zeroʳ ≤ʳ e.0) × P e.1 → EachOutcome P es → EachOutcome P more → EachOutcome P (if b then (e.0 +ʳ x.0, e.1) ∷ es else e ∷ more)
 put_one P true x e es more p r q i = ((+ʳ_nonnegative e.0 x.0 r.0 p, r.1), q)

@@ -1,4 +1,4 @@
--- A run that joins a list is an entry that takes the sum of the weights.
+-- Adding a run to a list is adding an entry to the map, or the weight to an entry.
 use Rattle.std.proofs.Common.{◌≡◌, ◌<◌, ◌≤◌, ℕ, arith, cond, if◌then◌else◌, nat_lt, List, [], ◌∷◌, Bool, true, false, Option, Some, None, length, refl, sym, ap, ◌∙◌}
 use Rattle.std.specs.Prelude.{is_some}
 use Prim.Native.Nat.{suc}
@@ -26,7 +26,6 @@ equal a b = config.ghosts.eq a b
 some_is : {X : Type 0} (x y : X) → Some x ≡ Some y → x ≡ y
 some_is x y e = cc
 
--- The weight that the map holds is the one of the list.
 pub held_is : (k : C.Config) (es : Entries) → held same_stored (stored k) (runs_of es) ≡ lookup (equal k) es
 held_is k [] = refl
 held_is k (e ∷ es) = ap (λ b. if b then Some e.1 else held same_stored (stored k) (runs_of es)) (sym (compares_stored k e.0)) ∙ ap (λ o. if equal k e.0 then Some e.1 else o) (held_is k es)
@@ -41,7 +40,6 @@ put_entry k w n e es b h sum later =
     go true q = ap (λ v. (v, stored e.0) ∷ runs_of es) (sum q)
     go false q = ap (λ l. run_of e ∷ l) (later q)
 
--- An equal entry takes the sum.
 pub put_found : (k : C.Config) (w v n : Rational) (es : Entries) → lookup (equal k) es ≡ Some v → v +ʳ w ≡ n → put same_stored (w, stored k) (runs_of es) ≡ runs_of (insert_entry equal es k n)
 put_found k w v n [] h s = absurd (cc)
 put_found k w v n (e ∷ es) h s = put_entry k w n e es (same_stored (stored k) (stored e.0)) refl (λ t. ap (λ u. u +ʳ w) (here t) ∙ s) (λ f. put_found k w v n es (there f) s)
@@ -52,7 +50,6 @@ put_found k w v n (e ∷ es) h s = put_entry k w n e es (same_stored (stored k) 
     there : same_stored (stored k) (stored e.0) ≡ false → lookup (equal k) es ≡ Some v
     there f = sym (ap (λ b. cond b (Some e.1) (lookup (equal k) es)) (compares_stored k e.0 ∙ f)) ∙ h
 
--- Where there is none, the run stands last.
 pub put_new : (k : C.Config) (w n : Rational) (es : Entries) → lookup (equal k) es ≡ None → w ≡ n → put same_stored (w, stored k) (runs_of es) ≡ runs_of (insert_entry equal es k n)
 put_new k w n [] h s = ap (λ v. (v, stored k) ∷ []) s
 put_new k w n (e ∷ es) h s = put_entry k w n e es (same_stored (stored k) (stored e.0)) refl (λ t. absurd (here t)) (λ f. put_new k w n es (there f) s)
@@ -63,7 +60,7 @@ put_new k w n (e ∷ es) h s = put_entry k w n e es (same_stored (stored k) (sto
     there : same_stored (stored k) (stored e.0) ≡ false → lookup (equal k) es ≡ None
     there f = sym (ap (λ b. cond b (Some e.1) (lookup (equal k) es)) (compares_stored k e.0 ∙ f)) ∙ h
 
--- ---- What stops a run that joins
+-- ---- Causes that stop a run
 
 pub length_runs : (es : Entries) → length (runs_of es) ≡ length es
 length_runs [] = refl
@@ -75,7 +72,6 @@ cause_found n k w v es o h e = ap (put_cause n w) (held_is k es ∙ h) ∙ ap (�
 pub cause_new : (k : C.Config) (w : Rational) (es : Entries) (b : Bool) → lookup (equal k) es ≡ None → nat_lt (length es) 65536 ≡ b → put_cause (length (runs_of es)) w (held same_stored (stored k) (runs_of es)) ≡ (if b then None else Some Full)
 cause_new k w es b h e = ap (put_cause (length (runs_of es)) w) (held_is k es ∙ h) ∙ ap (λ p. if p then None else Some Full) (ap (λ m. nat_lt m 65536) (length_runs es) ∙ e)
 
--- Whether the list has room, by the length of the map.
 pub room : (n : ℕ) (es : Entries) → n ≡ length es → n < 65536 → nat_lt (length es) 65536 ≡ true
 room n es e h = grind (arith, nat_tests)
 

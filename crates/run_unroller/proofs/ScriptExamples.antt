@@ -1,4 +1,5 @@
--- Sums of scripts on worked rows: by the number of decisions they do not fall, by the number of steps that are left they may.
+-- Sums under scripts on worked rows: they do not decrease if entries go by the number of decisions,
+-- but may if they went by the number of remaining steps.
 use Rattle.std.proofs.Common.{◌≡◌, ℕ, refl, true, false, List, [], ◌∷◌, Some, pos}
 use Rattle.std.specs.Prelude.{ℤ}
 use Prim.Native.Nat.{zero, suc}
@@ -29,7 +30,7 @@ parts infinite = (pos 1, 0)
 abbrev place : Span
 place = record { from = 0; to = 0 }
 
--- An output that takes any value; the post is 1 where it is true.
+-- An output that takes any value; the post is 1 if it is true.
 abbrev guessed : TypedProcedure
 guessed = record { name = []; co = true; weak = false; inputs = []; outputs = record { name = []; ty = Ty.Bool } ∷ []; locals = []; pre = Form.number zeroᵛ; post = Form.iverson (Cond.flag 0); body = Some (Acts.next (Act.any 0 true Ty.Bool place) Acts.done); loops = 0; span = place }
 
@@ -50,7 +51,8 @@ by_decisions_two : sum_by (scripted (guessed ∷ []) guesses 2 0 start) 2 ≡ (p
 unfolding runs weighted_sum scaled ratio gcd gcd_steps zeroʳ oneʳ zeroᵛ oneᵛ ◌+ʳ◌ ◌*ʳ◌ ◌+ᵛ◌ ◌*ᵛ◌ infinite_times is_zeroʳ leqʳ leqᵛ compareʳ
 by_decisions_two = refl
 
--- Were the entry that of the steps that are left, one step more would take another one, and the sum would fall.
+-- If the entry were that of the remaining steps, one more step would take another entry, and the
+-- sum would decrease.
 abbrev shifted : ℕ → Config → Tree
 shifted zero c = Tree.leaf
 shifted (suc n) c = Tree.node (entry guesses n) (forest (shifted n) (step (guessed ∷ []) c (entry guesses n)))

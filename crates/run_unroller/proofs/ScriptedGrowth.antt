@@ -1,4 +1,5 @@
--- A script's tree for more steps gives the same runs for fewer, so its sums do not fall.
+-- A script's scheduler for more steps gives the same runs of fewer steps, so its sums do not
+-- decrease.
 use Rattle.std.proofs.Common.{◌≡◌, ◌<◌, ◌≤◌, ◌+◌, ℕ, refl, sym, ap₂, subst, ◌∙◌, arith, true, false, List, [], ◌∷◌, ◌++◌, leb, ◌⊎◌, inl, inr}
 use Rattle.std.proofs.lemmas.Bool.Decides.{leb_tells}
 use Prim.Native.Nat.{zero, suc}

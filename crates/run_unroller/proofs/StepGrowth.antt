@@ -1,4 +1,4 @@
--- A step makes at most one turn of each loop more, and asks for at most one decision.
+-- A step adds at most one iteration of each loop, and asks for at most one decision.
 use Rattle.std.proofs.Common.{◌≡◌, ℕ, ◌+◌, ◌≤◌, ◌==◌, refl, ap, sym, subst, arith, Bool, true, false, List, [], ◌∷◌, get_or, replicate}
 use Prim.Native.Nat.{zero, suc}
 use Rattle.std.specs.Prelude.{if◌then◌else◌}
@@ -102,7 +102,6 @@ all_within ps n made asked c [] w e a g h = tt
 all_within ps n made asked c (x ∷ xs) w e a g h =
     ((h.0.weight, record { config = h.0.config; turns = λ k. let p = g.0 k in let l = w.turns k in omega (arith, p, l); made = let p = h.0.asks in let l = w.made in omega (arith, p, l, a, e) }), all_within ps n made asked c xs w e a g.1 h.1)
 
--- What a step leads to is within one step more.
 step_within : (ps : List TypedProcedure) (n : ℕ) (c : Stored) (d : Decision) → Within ps n c → MeansStep ps c d → AllWithin ps (suc n) (stored_step ps c d)
 step_within ps n c d w m = all_within ps n (c.made + asked_by (items_of ps c.items)) (asked_by (items_of ps c.items)) c (stored_step ps c d) w refl (asked_once (items_of ps c.items)) (grown_named ps (config_of ps c) (stored_step ps c d) (subst (Each (Grown (config_of ps c))) (sym m.steps) (stepped ps (config_of ps c).items (config_of ps c) d))) m.comes
 
@@ -114,7 +113,6 @@ module _ (ps : List TypedProcedure) (rules : Each (MeetsRules ps) ps) (script : 
       go [] = ((zero-≤ʳ-one, record { config = w.config; turns = λ k. let l = w.turns k in omega (arith, l); made = let l = w.made in omega (arith, l) }), tt)
       go (i ∷ is) = step_within ps n c (entry script c.made) w (stored_steps_are_meant ps rules c w.config (entry script c.made))
 
-  -- So is the list after a step.
   pub list_within : (n : ℕ) (rs : RunList) → AllWithin ps n rs → AllWithin ps (suc n) (after_step ps script rs)
   list_within n rs h = merged_kept same_stored (Within ps (suc n)) (joined (follow ps script) rs) (joined_kept (Within ps n) (Within ps (suc n)) (follow ps script) (follow_within n) rs h)
 
@@ -127,6 +125,5 @@ no_turns (suc k) n = go k n
     go zero (suc n) = omega arith
     go (suc k) (suc n) = go k n
 
--- The first list.
 pub first_within : (ps : List TypedProcedure) (p : ℕ) (c : Stored) (rs : RunList) → Begins ps p c → rs ≡ begun c → AllWithin ps 0 rs
 first_within ps p c rs b e = subst (AllWithin ps 0) (sym e) ((zero-≤ʳ-one, record { config = b.config; turns = λ k. subst (λ ts. turns_of ts k ≤ 0) (sym (ap (λ z. z.turns) b.first)) (no_turns k (procedure_at ps p).loops); made = subst (λ m. m ≤ 0) (sym (ap (λ z. z.made) b.first)) (omega arith) }), tt)

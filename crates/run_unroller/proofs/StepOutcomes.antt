@@ -1,4 +1,4 @@
--- What the step of one run brings, and how outcomes join a list.
+-- The outcomes of one run's step, and adding them to a list.
 use Rattle.std.proofs.Common.{◌≡◌, ℕ, ◌==◌, refl, ap, sym, subst, ◌∙◌, arith, Bool, true, false, List, [], ◌∷◌, ◌++◌, length, map}
 use Rattle.std.specs.Option.{option_or}
 use Rattle.std.specs.Prelude.{Option, Some, None, Result, Ok, Err, IfOk, if◌then◌else◌}
@@ -21,17 +21,15 @@ use Rattle.run_unroller.specs.RunLists.{RunList, follow, followed}
 use Rattle.run_unroller.specs.Scripts.{entry}
 use Rattle.run_unroller.specs.internal.Extensions.{Extends}
 
--- A fact of a result, from another one.
 pub if_ok : {A E : Type 0} {P Q : A → Type 0} (r : Result A E) → ((a : A) → P a → Q a) → IfOk r P → IfOk r Q
 if_ok (Ok a) f h = f a h
 if_ok (Err e) f h = h
 
--- The same of two facts.
 pub if_ok_both : {A E : Type 0} {P Q R : A → Type 0} (r : Result A E) → ((a : A) → P a → Q a → R a) → IfOk r P → IfOk r Q → IfOk r R
 if_ok_both (Ok a) f h k = f a h k
 if_ok_both (Err e) f h k = h
 
--- ---- Lists that join one after the other
+-- ---- Lists that are added one after the other
 
 pub onto_none : {A : Type 0} (same : A → A → Bool) (es : List (Rational × A)) → merged_onto same es [] ≡ es
 unfolding merged_onto
@@ -64,11 +62,9 @@ joined_next k x xs = refl
 
 -- ---- One outcome
 
--- An outcome whose product doesn't fit stops the list.
 pub product_stops : (old new : RunList) (w : Rational) (x : Rational × Stored) (more : RunList) → None ≡ exact_product w x.0 → Extends old new (Brought.joins w x ∷ []) more (Some Bits)
 product_stops old new w x more e = λ rest. ap (λ o. option_or (product_cause old x.1 o) (first_cause (put same_stored (w *ʳ x.0, x.1) old) rest)) (sym e)
 
--- An outcome whose product fits joins the list, or stops it, as the product does.
 pub product_joins : (old new : RunList) (w v : Rational) (x : Rational × Stored) (cause : Option Cause) → Some v ≡ exact_product w x.0 → cause ≡ put_cause (length old) v (held same_stored x.1 old) → (cause ≡ None → new ≡ put same_stored (v, x.1) old) → Extends old new (Brought.joins w x ∷ []) ((w *ʳ x.0, x.1) ∷ []) cause
 product_joins old new w v x cause e h k = go cause h k
   where
@@ -91,11 +87,9 @@ next_replied : (b : Bool) (ys zs : StoredOutcomes) → Reply.next ys ≡ replied
 next_replied true ys zs e = next_kept (any_large zs) ys zs e
 next_replied false ys zs e = absurd (cc)
 
--- Where the step fits, it is the stored step.
 pub next_is_step : (ps : List TypedProcedure) (c : Stored) (d : Decision) (ys : StoredOutcomes) → Reply.next ys ≡ stored_reply ps c d → ys ≡ stored_step ps c d
 next_is_step ps c d ys e = next_replied _ ys (stored_step ps c d) e
 
--- A run that has ended is its own one outcome.
 pub ended_joins : (ps : List TypedProcedure) (script : List Decide) (old new : RunList) (w u : Rational) (c : Stored) (cause : Option Cause) → c.items ≡ [] → u ≡ oneʳ → Extends old new (Brought.joins w (u, c) ∷ []) ((w *ʳ u, c) ∷ []) cause → Extends old new (brought ps script c.items w c) (scaled w (follow ps script c)) cause
 unfolding scaled
 ended_joins ps script old new w u c cause e one h =
@@ -106,16 +100,14 @@ running : (ps : List TypedProcedure) (script : List Decide) (old new : RunList) 
 running ps script old new w c cause [] n h = absurd (cc)
 running ps script old new w c cause (i ∷ is) n h = h
 
--- A run that goes on is followed by the outcomes of its step.
 pub running_joins : (ps : List TypedProcedure) (script : List Decide) (old new : RunList) (w : Rational) (c : Stored) (d : Decision) (xs : StoredOutcomes) (cause : Option Cause) → (length c.items == 0) ≡ false → d ≡ entry script c.made → Reply.next xs ≡ stored_reply ps c d → Extends old new (map (Brought.joins w) xs) (scaled w xs) cause → Extends old new (brought ps script c.items w c) (scaled w (follow ps script c)) cause
 running_joins ps script old new w c d xs cause n f e h =
     let reply : Reply.next xs ≡ stored_reply ps c (entry script c.made) = e ∙ ap (stored_reply ps c) f in
     running ps script old new w c cause c.items n
     (subst (λ l. Extends old new (brought_by w (stored_reply ps c (entry script c.made))) (scaled w l) cause) (next_is_step ps c (entry script c.made) xs reply) (subst (λ r. Extends old new (brought_by w r) (scaled w xs) cause) reply h))
 
--- ---- Counts that the code tests
+-- ---- Counts that the program tests
 
--- A list of length 0 is empty.
 pub nothing_left : {A : Type 0} (n : ℕ) (xs : List A) → n ≡ length xs → n ≡ 0 → xs ≡ []
 nothing_left n [] e z = refl
 nothing_left n (x ∷ xs) e z = absurd (cc)

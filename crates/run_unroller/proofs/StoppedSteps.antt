@@ -38,14 +38,12 @@ stays_stopped ps script rs stop m (suc k) h =
 next_stop : (ps : List TypedProcedure) (script : List Decide) (rs : RunList) (o : Option Cause) (m : ℕ) → first_stop ps script m rs ≡ None → step_cause ps script (after ps script m rs) ≡ o → first_stop ps script (suc m) rs ≡ at_step (suc m) o
 next_stop ps script rs o m free e = ap (λ p. option_or p (at_step (suc m) (step_cause ps script (after ps script m rs)))) free ∙ ap (at_step (suc m)) e
 
--- The first step that is stopped, after steps that aren't.
 pub stops : (ps : List TypedProcedure) (script : List Decide) (rs now : RunList) (cause : Cause) (m n : ℕ) → first_stop ps script m rs ≡ None → now ≡ after ps script m rs → step_cause ps script now ≡ Some cause → m < n → first_stop ps script n rs ≡ Some (cause, m + 1)
 stops ps script rs now cause m n free list e l =
     ap (λ k. first_stop ps script k rs) (let h : n ≡ suc m + (n - suc m) = omega (arith, l) in h)
     ∙ stays_stopped ps script rs (cause, suc m) (suc m) (n - suc m) (next_stop ps script rs (Some cause) m free (ap (step_cause ps script) (sym list) ∙ e))
     ∙ ap (λ k. Some (cause, k)) (let h : suc m ≡ m + 1 = omega arith in h)
 
--- One step more that isn't stopped.
 pub goes_on : (ps : List TypedProcedure) (script : List Decide) (rs now : RunList) (m : ℕ) → first_stop ps script m rs ≡ None → now ≡ after ps script m rs → step_cause ps script now ≡ None → first_stop ps script (m + 1) rs ≡ None
 goes_on ps script rs now m free list e = ap (λ k. first_stop ps script k rs) (let h : m + 1 ≡ suc m = omega arith in h) ∙ next_stop ps script rs None m free (ap (step_cause ps script) (sym list) ∙ e)
 

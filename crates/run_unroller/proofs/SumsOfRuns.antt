@@ -1,4 +1,4 @@
--- What the program adds up are the sums over runs.
+-- The numbers that the program adds up are the sums over runs.
 use Rattle.std.proofs.Common.{◌≡◌, ℕ, ◌+◌, refl, ap, ap₂, sym, subst, arith, ◌∙◌, true, false, List, [], ◌∷◌, ◌++◌, length, length-append}
 use Prim.Native.Nat.{zero, suc}
 use Rattle.std.specs.Prelude.{Option, Some, None, IfSome}
@@ -39,7 +39,7 @@ sum-cons g x xs = refl
 
 -- ---- Values
 
--- A function of runs that gives a value, where it gives one, as another does.
+-- A partial function of runs that agrees with a total one where it is defined.
 abbrev Gives : (Stored → Option Value) → (Stored → Value) → Type 0
 Gives f g = (r : Stored) → IfSome (f r) (λ v. v ≡ g r)
 
@@ -115,7 +115,6 @@ reward_in r = r.reward
 abbrev post_in : Form → Stored → Value
 post_in post r = value post (environment r.state) Choices.stop
 
--- The upper sum is that of the rewards and that of the posts of the runs that have ended.
 upper_one : (ps : List TypedProcedure) (post : Form) (x : Rational × Stored) (xs : RunList) (is : List Numbered) (rest rewards posts : Value) → rest ≡ rewards +ᵛ weighted_sum (post_in post) xs → (finite x.0 *ᵛ (x.1.reward +ᵛ ended_value true post (items_of ps is) x.1.state)) +ᵛ rest ≡ ((finite x.0 *ᵛ x.1.reward) +ᵛ rewards) +ᵛ weighted_sum (post_in post) (if_ended is x xs)
 upper_one ps post x xs [] rest rewards posts e =
     ap (λ a. (finite x.0 *ᵛ (x.1.reward +ᵛ post_in post x.1)) +ᵛ a) e
@@ -135,7 +134,6 @@ upper_sum ps post (x ∷ xs) =
     ∙ upper_one ps post x (ended xs) x.1.items (sum_of true post (outcomes ps xs)) (weighted_sum reward_in xs) zeroᵛ (upper_sum ps post xs)
     ∙ ap (λ a. a +ᵛ weighted_sum (post_in post) (if_ended x.1.items x (ended xs))) (sym (sum-cons reward_in x xs))
 
--- The weak sum is that of the posts of the runs that have ended and the weight of the others.
 weak_one : (ps : List TypedProcedure) (post : Form) (x : Rational × Stored) (xs ys : RunList) (is : List Numbered) (rest : Value) → rest ≡ weighted_sum (post_in post) xs +ᵛ weighted_sum one ys → (finite x.0 *ᵛ ended_value false post (items_of ps is) x.1.state) +ᵛ rest ≡ weighted_sum (post_in post) (if_ended is x xs) +ᵛ weighted_sum one (if_running is x ys)
 weak_one ps post x xs ys [] rest e =
     ap (λ a. (finite x.0 *ᵛ post_in post x.1) +ᵛ a) e
@@ -150,7 +148,6 @@ weak_sum : (ps : List TypedProcedure) (post : Form) (xs : RunList) → sum_of fa
 weak_sum ps post [] = sum-empty (worth false post) ∙ sym (ap₂ (λ a b. a +ᵛ b) (sum-empty (post_in post)) (sum-empty one) ∙ +ᵛ-zero zeroᵛ)
 weak_sum ps post (x ∷ xs) = sum-cons (worth false post) (named_outcome ps x) (outcomes ps xs) ∙ weak_one ps post x (ended xs) (running xs) x.1.items (sum_of false post (outcomes ps xs)) (weak_sum ps post xs)
 
--- A run whose part is 0 adds nothing.
 nothing_added : (w : Rational) (v : Value) → (finite w *ᵛ zeroᵛ) +ᵛ v ≡ v
 nothing_added w v = ap (λ a. a +ᵛ v) (*ᵛ-zero (finite w)) ∙ zero-+ᵛ v
 
@@ -185,7 +182,6 @@ zero_first v = zero-+ᵛ v
 turns_are : (ps : List TypedProcedure) (number : ℕ) (rs : RunList) (t : Rational) → turns_total number rs ≡ Some t → turns_sum number (outcomes ps rs) ≡ finite t
 turns_are ps number rs t e = same_turns ps number rs ∙ sym (fractions_are (turns_of number) zeroʳ rs t e ∙ zero_first (weighted_sum (λ r. finite (turns_of number r)) rs))
 
--- One loop more.
 turns_more : (number : ℕ) (cs : Outcomes) (ts : List Rational) (t : Rational) → AreTurns number ts cs → turns_sum (number + length ts) cs ≡ finite t → AreTurns number (ts ++ (t ∷ [])) cs
 turns_more number cs [] t h e = (ap (λ n. turns_sum n cs) (let z : number ≡ number + 0 = omega arith in z) ∙ e, tt)
 turns_more number cs (u ∷ us) t h e = (h.0, turns_more (suc number) cs us t h.1 (ap (λ n. turns_sum n cs) (let z : suc number + length us ≡ number + suc (length us) = omega arith in z) ∙ e))

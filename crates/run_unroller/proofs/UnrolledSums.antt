@@ -1,4 +1,4 @@
--- The sums that unrolling gives are those of the runs.
+-- The sums of unrolling are those over the runs.
 use Rattle.std.proofs.Common.{◌≡◌, ℕ, ◌+◌, ap, sym, subst, ◌∙◌, List, [], ◌∷◌}
 use Prim.Native.Nat.{suc}
 use Rattle.std.specs.Prelude.{Option, Some, None}
@@ -21,7 +21,7 @@ use Rattle.run_unroller.specs.Unrolling.{Unrolling, stop_or, sums_or}
 use Rattle.run_unroller.specs.UnrollLaws.{AreSums, AreTurns, TotalsAreSums, UnrolledSumsAreMeant}
 use Rattle.run_unroller.proofs.ListsOfRuns.{lists_are_runs}
 
--- Outcomes whose sums are the same have the same totals.
+-- Outcomes with the same sums have the same totals.
 module _ (xs ys : Outcomes) (same : (f : Config → Value) → weighted_sum f xs ≡ weighted_sum f ys) where
   turns_same : (number : ℕ) (ts : List Rational) → AreTurns number ts xs → AreTurns number ts ys
   turns_same number [] h = tt
@@ -38,7 +38,6 @@ module _ (xs ys : Outcomes) (same : (f : Config → Value) → weighted_sum f xs
     loops = h.loops;
   }
 
--- Sums that are given are the totals of the list after the steps.
 sums_given : (o : Option (Cause × ℕ)) (q : Option Totals) (n : ℕ) (t : Totals) → stop_or o (sums_or n q) ≡ Unrolling.sums t → q ≡ Some t
 sums_given (Some stop) q n t e = absurd (cc)
 sums_given None (Some u) n t e = cc

@@ -1,7 +1,7 @@
--- The list of runs after a step: the outcomes of the runs before it, in order, each weight times the run's, where runs that have come
--- to the same configuration are one, with their weights together. A run that has ended stays. A configuration counts the decisions
--- that were asked for, so that runs that were asked for different numbers of them are never one.
--- Source: this project's own.
+-- The list of runs after a step: the outcomes of each run, in order, their weights multiplied by
+-- the run's, where runs with equal configurations are merged. A terminated run stays as it is. A
+-- configuration counts the decisions asked for, so runs with different numbers of decisions are
+-- never merged. This project's own.
 use Rattle.std.specs.Prelude.{ℕ, List, [], ◌∷◌}
 use Prim.Native.Nat.{zero, suc}
 use Rattle.heyvl_num.specs.WeightedSums.{joined}
@@ -15,11 +15,12 @@ use Rattle.run_machine.specs.StoredStep.{stored_step}
 use Rattle.run_unroller.specs.MergedLists.{merged}
 use Rattle.run_unroller.specs.Scripts.{entry}
 
--- The configurations that runs have come to, as they are stored, with the probabilities with which they come.
+-- The stored configurations of runs, with their probabilities.
 abbrev pub RunList : Type 0
 RunList = StoredOutcomes
 
--- The outcomes of a run by its items: those of its step under its next decision, or itself where it has ended.
+-- The outcomes of a run with the given items: those of its step under its next decision, or itself
+-- if it has terminated.
 abbrev pub followed : List TypedProcedure → List Decide → List Numbered → Stored → RunList
 followed ps script [] c = surely c
 followed ps script (i ∷ is) c = stored_step ps c (entry script c.made)
@@ -32,15 +33,15 @@ follow ps script c = followed ps script c.items c
 abbrev pub after_step : List TypedProcedure → List Decide → RunList → RunList
 after_step ps script rs = merged same_stored (joined (follow ps script) rs)
 
--- The list after so many steps.
+-- The list after `n` steps.
 abbrev pub after : List TypedProcedure → List Decide → ℕ → RunList → RunList
 after ps script zero rs = rs
 after ps script (suc n) rs = after_step ps script (after ps script n rs)
 
--- The one run that begins with this configuration.
+-- The list of the one run that begins with the configuration `c`.
 abbrev pub begun : Stored → RunList
 begun c = surely c
 
--- The outcomes of the definition that the runs stand for.
+-- The outcomes, in the definition of runs, that the stored runs represent.
 abbrev pub outcomes : List TypedProcedure → RunList → Outcomes
 outcomes ps rs = named ps rs

@@ -1,28 +1,29 @@
-//! What unrolling gives.
+//! The results of unrolling.
 
 use heyvl_num::{Ext, Frac};
 
-/// Sums over the runs, each by its weight.
+/// Weighted sums over the runs.
 #[derive(Debug, Drop)]
 pub struct Sums {
-    /// The post of the runs that have ended.
+    /// The post over the terminated runs.
     pub post: Ext,
-    /// The rewards of all runs.
+    /// The rewards over all runs.
     pub reward: Ext,
-    /// The weight of the runs that haven't ended.
+    /// The mass not yet terminated.
     pub running: Frac,
-    /// The turns of each loop of the procedure that was started.
+    /// The expected iterations of each loop of the procedure that was started.
     pub turns: Vec<Frac>,
 }
 
-/// The sums, or what stopped the runs, and at which step. Steps are numbered from 1, and the adding comes after the last one.
+/// The sums, or the limit that stopped the runs and the number of the step. Steps are numbered from
+/// 1, and adding the sums counts as the step after the last.
 #[derive(Debug, Drop)]
 pub enum Unrolled {
     Sums(Sums),
-    /// The runs would have come to more than 65,536 different configurations.
+    /// The runs have more than 65,536 different configurations.
     Full(u32),
-    /// The values of all frames and the state of a configuration would be more than 512.
+    /// The state and all frames of a configuration have more than 512 values.
     Deep(u32),
-    /// A number doesn't fit.
+    /// A number overflows.
     Bits(u32),
 }

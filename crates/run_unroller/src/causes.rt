@@ -1,26 +1,26 @@
-//! What stops a list of runs.
+//! Causes that stop a list of runs.
 
 use crate::merged_runs::MergedRuns;
 
-/// Why a list of runs can't be made.
+/// A cause that stops a list of runs.
 #[derive(Clone, Copy, Debug)]
 pub(crate) enum Cause {
-    /// It would have more runs than it may.
+    /// The list has more than 65,536 runs.
     Full,
-    /// A configuration would have more values than it may.
+    /// A configuration has more than 512 values.
     Deep,
-    /// A number doesn't fit.
+    /// A number overflows.
     Bits,
 }
 
-/// The list after a step, or what stops it.
+/// The list after a step, or the cause that stops the step.
 #[derive(Drop)]
 pub(crate) enum Grown {
     Runs(MergedRuns),
     Stopped(Cause),
 }
 
-/// The list after some steps, or what stops it, and at which step.
+/// The list after some steps, or the cause that stops one of them, and the step's number.
 #[derive(Drop)]
 pub(crate) enum Reached {
     Runs(MergedRuns),

@@ -6,7 +6,6 @@ ghost use Rattle.run_machine.specs.Names.{lists_of, stored};
 use run_machine::{Config, Frame};
 use std::alloc::{AllocError, Global};
 
-/// A copy of the configuration.
 pub(crate) fn copy_config(alloc: Global, config: &Config) -> Result<Config, AllocError>
     ensures { IfOk result (λ copied. stored copied ≡ stored config.now) }
 {
@@ -21,7 +20,7 @@ pub(crate) fn copy_config(alloc: Global, config: &Config) -> Result<Config, Allo
     })
 }
 
-/// Copies of these frames, in their order.
+/// Returns copies of the frames, in their order.
 fn copy_frames(alloc: Global, frames: &[Frame]) -> Result<Vec<Frame>, AllocError>
     ensures { IfOk result (λ copied. map lists_of copied.items ≡ map lists_of frames.now) }
 {

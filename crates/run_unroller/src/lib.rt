@@ -1,4 +1,6 @@
 //! Runs of HeyVL programs, unrolled for a number of steps, and their sums.
+//!
+//! `AllocError` means that memory ran out.
 #![tactic(auto)]
 
 mod answers;

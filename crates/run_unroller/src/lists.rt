@@ -21,8 +21,8 @@ use heyvl_num::Frac;
 use run_machine::{Config, Decide, Stepped, step};
 use std::alloc::{AllocError, Global};
 
-/// The list after one step more: the outcomes of each run in order, each with the product of the weights, those that are equal with
-/// their weights together. A run that has ended stays.
+/// Returns the list after one more step: the outcomes of each run, in order, with the product of
+/// the weights, where equal runs are merged. A terminated run stays as it is.
 pub(crate) fn after_step(
     alloc: Global,
     typed: &Typed,
@@ -30,9 +30,11 @@ pub(crate) fn after_step(
     runs: MergedRuns,
 ) -> Result<Grown, AllocError>
     requires rules { MeetsAllRules typed.now }
-    requires configs { Each (λ x. IsConfig (procedures_of typed.now) x.1) (runs_of runs.entries.entries) }
+    requires configs { Each (λ x. IsConfig (procedures_of typed.now) x.1)
+        (runs_of runs.entries.entries) }
     requires rooms { Each (λ x. HasRoom x.1) (runs_of runs.entries.entries) }
-    ensures { IfOk result (λ grown. IsAfterStep (procedures_of typed.now) script.now (runs_of runs.entries.entries) grown) }
+    ensures { IfOk result (λ grown.
+        IsAfterStep (procedures_of typed.now) script.now (runs_of runs.entries.entries) grown) }
 {
     let mut next = MergedRuns::new(alloc);
     for (config, weight) in runs.entries {
@@ -43,7 +45,7 @@ pub(crate) fn after_step(
     Ok(Grown::Runs(next))
 }
 
-/// The outcomes of a run of this weight join the list, or stop it.
+/// Adds the outcomes of a run of this weight to `next`, or returns the cause that stops them.
 fn follow_run(
     alloc: Global,
     typed: &Typed,
@@ -55,7 +57,10 @@ fn follow_run(
     requires rules { MeetsAllRules typed.now }
     requires config { IsConfig (procedures_of typed.now) (stored config) }
     requires room { HasRoom (stored config) }
-    ensures { IfOk result (λ cause. Extends (runs_of next.old.entries.entries) (runs_of next.new.entries.entries) (brought (procedures_of typed.now) script.now config.items.items weight (stored config)) (scaled weight (follow (procedures_of typed.now) script.now (stored config))) cause) }
+    ensures { IfOk result (λ cause.
+        Extends (runs_of next.old.entries.entries) (runs_of next.new.entries.entries)
+        (brought (procedures_of typed.now) script.now config.items.items weight (stored config))
+        (scaled weight (follow (procedures_of typed.now) script.now (stored config))) cause) }
 {
     if config.items.is_empty() {
         return join_outcome(next, &weight, (Frac::one(), config));
@@ -67,20 +72,23 @@ fn follow_run(
     }
 }
 
-/// The script's entry for the decision of this number.
+/// Returns the script's entry number `made`.
 fn decision(script: &[Decide], made: u32) -> Option<&Decide>
     ensures { decision_of result ≡ entry script.now made }
 {
     script.get(made as usize)
 }
 
-/// Outcomes of a run of this weight join the list, or stop it.
+/// Adds outcomes of a run of this weight to `next`, or returns the cause that stops them.
 fn join_all(
     next: &mut MergedRuns,
     weight: &Frac,
     outcomes: Vec<(Frac, Config)>,
 ) -> Result<Option<Cause>, AllocError>
-    ensures { IfOk result (λ cause. Extends (runs_of next.old.entries.entries) (runs_of next.new.entries.entries) (map (Brought.joins weight.now) (stored_outcomes outcomes.items)) (scaled weight.now (stored_outcomes outcomes.items)) cause) }
+    ensures { IfOk result (λ cause.
+        Extends (runs_of next.old.entries.entries) (runs_of next.new.entries.entries)
+        (map (Brought.joins weight.now) (stored_outcomes outcomes.items))
+        (scaled weight.now (stored_outcomes outcomes.items)) cause) }
 {
     for outcome in outcomes {
         if let Some(cause) = join_outcome(next, weight, outcome)? {
@@ -90,13 +98,16 @@ fn join_all(
     Ok(None)
 }
 
-/// One outcome of a run of this weight joins the list, or stops it.
+/// Adds one outcome of a run of this weight to `next`, or returns the cause that stops it.
 fn join_outcome(
     next: &mut MergedRuns,
     weight: &Frac,
     outcome: (Frac, Config),
 ) -> Result<Option<Cause>, AllocError>
-    ensures { IfOk result (λ cause. Extends (runs_of next.old.entries.entries) (runs_of next.new.entries.entries) (Brought.joins weight.now (stored_outcome outcome) ∷ []) ((weight.now *ʳ outcome.0, stored outcome.1) ∷ []) cause) }
+    ensures { IfOk result (λ cause.
+        Extends (runs_of next.old.entries.entries) (runs_of next.new.entries.entries)
+        (Brought.joins weight.now (stored_outcome outcome) ∷ [])
+        ((weight.now *ʳ outcome.0, stored outcome.1) ∷ []) cause) }
 {
     match weight.mul(&outcome.0) {
         None => Ok(Some(Cause::Bits)),

@@ -1,4 +1,4 @@
-//! Lists of runs in which those that have come to the same configuration are one.
+//! Lists of runs in which runs with equal configurations are merged.
 
 ghost use Rattle.std.specs.Prelude.{◌≡◌, ◌∷◌, [], IfErr, IfOk, None, Some, length};
 ghost use Rattle.indexmap.specs.IndexMap.{insert_entry};
@@ -18,17 +18,17 @@ use indexmap::IndexMap;
 use run_machine::Config;
 use std::alloc::{AllocError, Global};
 
-/// How many runs a list may have.
+/// The number of runs that a list may have.
 const MOST_RUNS: usize = 65_536;
 
-/// Runs with their weights, by the configurations that they have come to, in the order in which these came first.
+/// The weights of runs by their configurations, in the order in which these were first added.
 #[derive(Drop)]
 pub(crate) struct MergedRuns {
     pub(crate) entries: IndexMap<Config, Frac>,
 }
 
 impl MergedRuns {
-    /// No runs.
+    /// Returns the empty list.
     pub(crate) fn new(alloc: Global) -> MergedRuns
         ensures { runs_of result.entries.entries ≡ [] }
     {
@@ -37,7 +37,7 @@ impl MergedRuns {
         }
     }
 
-    /// The one run that begins with the configuration.
+    /// Returns the list of the one run that begins with `start`.
     pub(crate) fn only(alloc: Global, start: &Config) -> Result<MergedRuns, AllocError>
         ensures { IfOk result (λ runs. runs_of runs.entries.entries ≡ begun (stored start.now)) }
     {
@@ -47,11 +47,15 @@ impl MergedRuns {
         Ok(runs)
     }
 
-    /// A run joins the list: its weight is added to that of an equal one, or else it stands last. Or what stops it: the sum doesn't
-    /// fit, or there is no room for one run more.
+    /// Adds a run: its weight is added to that of an equal run, or else it becomes the last one.
+    /// Returns the cause that stops it if the sum overflows or the list is full.
     pub(crate) fn join(&mut self, weight: Frac, config: Config) -> Result<Option<Cause>, AllocError>
-        ensures cause { IfOk result (λ cause. cause ≡ put_cause (length (runs_of self.old.entries.entries)) weight (held same_stored (stored config) (runs_of self.old.entries.entries))) }
-        ensures list { IfOk result (λ cause. cause ≡ None → runs_of self.new.entries.entries ≡ put same_stored (weight, stored config) (runs_of self.old.entries.entries)) }
+        ensures cause { IfOk result
+            (λ cause. cause ≡ put_cause (length (runs_of self.old.entries.entries)) weight
+            (held same_stored (stored config) (runs_of self.old.entries.entries))) }
+        ensures list { IfOk result (λ cause. cause ≡ None
+            → runs_of self.new.entries.entries
+            ≡ put same_stored (weight, stored config) (runs_of self.old.entries.entries)) }
     {
         match self.total(&weight, &config) {
             Err(cause) => Ok(Some(cause)),
@@ -62,11 +66,24 @@ impl MergedRuns {
         }
     }
 
-    /// The weight of a run that joins, together with that of an equal one where there is one. Or what stops it.
+    /// Returns the weight of a run that is added, plus that of an equal run if there is one.
+    ///
+    /// # Errors
+    ///
+    /// The cause: the sum overflows, or the list is full.
     fn total(&self, weight: &Frac, config: &Config) -> Result<Frac, Cause>
-        ensures fits { IfOk result (λ _. put_cause (length (runs_of self.now.entries.entries)) weight.now (held same_stored (stored config.now) (runs_of self.now.entries.entries)) ≡ None) }
-        ensures stops { IfErr result (λ cause. put_cause (length (runs_of self.now.entries.entries)) weight.now (held same_stored (stored config.now) (runs_of self.now.entries.entries)) ≡ Some cause) }
-        ensures sum { IfOk result (λ sum. put same_stored (weight.now, stored config.now) (runs_of self.now.entries.entries) ≡ runs_of (insert_entry (λ a b. configurations.ghosts.eq a b) self.now.entries.entries config.now sum)) }
+        ensures fits { IfOk result
+            (λ _. put_cause (length (runs_of self.now.entries.entries)) weight.now
+            (held same_stored (stored config.now) (runs_of self.now.entries.entries)) ≡ None) }
+        ensures stops { IfErr result
+            (λ cause. put_cause (length (runs_of self.now.entries.entries)) weight.now
+            (held same_stored (stored config.now) (runs_of self.now.entries.entries))
+            ≡ Some cause) }
+        ensures sum { IfOk result
+            (λ sum. put same_stored (weight.now, stored config.now)
+            (runs_of self.now.entries.entries)
+            ≡ runs_of (insert_entry (λ a b. configurations.ghosts.eq a b) self.now.entries.entries
+            config.now sum)) }
     {
         match self.entries.get(config) {
             Some(held) => match held.add(weight) {
@@ -83,7 +100,7 @@ impl MergedRuns {
         }
     }
 
-    /// The runs in their order, each with its weight in front.
+    /// Returns the runs in their order, each with its weight.
     pub(crate) fn into_runs(self, alloc: Global) -> Result<Vec<(Frac, Config)>, AllocError>
         ensures { IfOk result (λ runs. stored_outcomes runs.items ≡ runs_of self.entries.entries) }
     {

@@ -1,4 +1,4 @@
-//! Whole numbers as fractions.
+//! Integers as fractions.
 
 ghost use Rattle.std.specs.Prelude.{◌≡◌, pos};
 ghost use Rattle.heyvl_num.specs.Rational.{ratio};

@@ -1,4 +1,4 @@
-//! The sums of a list of runs.
+//! The sums over a list of runs.
 
 ghost use Rattle.std.specs.Prelude.{◌≡◌, IfOk, option_map};
 ghost use Rattle.heyvl_acts.specs.Acts.{procedure_at};
@@ -16,14 +16,15 @@ use heyvl_num::Frac;
 use run_machine::Config;
 use std::alloc::{AllocError, Global};
 
-/// The sums of the runs of this procedure, or None where a number that is needed doesn't fit.
+/// Returns the sums over runs of the procedure `p`, or `None` if a number overflows.
 pub(crate) fn sums(
     alloc: Global,
     typed: &Typed,
     p: u32,
     runs: &[(Frac, Config)],
 ) -> Result<Option<Sums>, AllocError>
-    ensures { IfOk result (λ sums. option_map totals_of sums ≡ totals (procedure_at (procedures_of typed.now) p) (stored_outcomes runs.now)) }
+    ensures { IfOk result (λ sums. option_map totals_of sums
+        ≡ totals (procedure_at (procedures_of typed.now) p) (stored_outcomes runs.now)) }
 {
     let Some(post) = post_sum(typed, p, runs) else {
         return Ok(None);
@@ -45,7 +46,7 @@ pub(crate) fn sums(
     }
 }
 
-/// How many loops the procedure has; none where it isn't there.
+/// Returns the number of loops of the procedure `p`, or 0 if there is none.
 fn loops_of(typed: &Typed, p: u32) -> u32
     ensures { result ≡ (procedure_at (procedures_of typed.now) p).loops }
 {

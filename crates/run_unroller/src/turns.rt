@@ -1,4 +1,4 @@
-//! The turns of loops, over all runs.
+//! Expected iterations of loops.
 
 ghost use Rattle.std.specs.Prelude.{◌≡◌, IfOk, option_map, pos};
 ghost use Prim.Native.Nat.{suc};
@@ -12,13 +12,14 @@ use heyvl_num::Frac;
 use run_machine::Config;
 use std::alloc::{AllocError, Global};
 
-/// The turns of each of so many loops.
+/// Returns the expected iterations of the first `loops` loops, or `None` if a number overflows.
 pub(crate) fn all_turns(
     alloc: Global,
     loops: u32,
     runs: &[(Frac, Config)],
 ) -> Result<Option<Vec<Frac>>, AllocError>
-    ensures { IfOk result (λ turns. option_map (λ ts. ts.items) turns ≡ all_turns_of loops (stored_outcomes runs.now)) }
+    ensures { IfOk result (λ turns. option_map (λ ts. ts.items) turns
+        ≡ all_turns_of loops (stored_outcomes runs.now)) }
 {
     let mut turns = Vec::new(alloc);
     for index in 0..loops {
@@ -30,7 +31,7 @@ pub(crate) fn all_turns(
     Ok(Some(turns))
 }
 
-/// The turns of the loop that comes after so many others.
+/// Returns the expected iterations of the loop number `index` + 1.
 fn turns_sum(index: u32, runs: &[(Frac, Config)]) -> Option<Frac>
     ensures { result ≡ turns_total (suc index) (stored_outcomes runs.now) }
 {
@@ -42,7 +43,7 @@ fn turns_sum(index: u32, runs: &[(Frac, Config)]) -> Option<Frac>
     Some(sum)
 }
 
-/// The turns of this loop in one run; none where the loop isn't there.
+/// Returns the iterations of the loop number `index` + 1 in one run, or 0 if there is no such loop.
 fn turns_at(config: &Config, index: u32) -> Frac
     ensures { result ≡ ratio (pos (turns_of config.now.turns.items (suc index))) 1 }
 {

@@ -23,10 +23,12 @@ use heyvl_num::Frac;
 use run_machine::{Config, Decide};
 use std::alloc::{AllocError, Global};
 
-/// The sums of all runs of at most n steps, where decision number j of each run is the script's j-th entry, or what stops
-/// them first. Full comes exactly where the runs of a step would have come to more than 65,536 different configurations, Deep exactly
-/// where the values of all frames and the state would be more than 512, and Bits exactly where a number doesn't fit, the weights of
-/// runs that have come to the same configuration together among them.
+/// Returns the sums over all runs of at most `n` steps, where the decision number j of each run is
+/// the script's entry j, or the first limit that stops them:
+///
+/// - `Full` exactly if the runs of a step have more than 65,536 different configurations;
+/// - `Deep` exactly if the state and all frames of a configuration have more than 512 values;
+/// - `Bits` exactly if a number overflows, including the sum of the weights of merged runs.
 pub fn unroll(
     alloc: Global,
     typed: &Typed,
@@ -38,7 +40,8 @@ pub fn unroll(
     requires rules { MeetsAllRules typed.now }
     requires begins { Begins (procedures_of typed.now) p (stored start.now) }
     requires steps { n ≤ 10000 }
-    ensures { IfOk result (λ answer. unrolling_of answer ≡ unrolled (procedures_of typed.now) p script.now n (begun (stored start.now))) }
+    ensures { IfOk result (λ answer. unrolling_of answer
+        ≡ unrolled (procedures_of typed.now) p script.now n (begun (stored start.now))) }
 {
     let runs = MergedRuns::only(alloc, start)?;
     match after(alloc, typed, script, runs, n)? {
@@ -50,7 +53,7 @@ pub fn unroll(
     }
 }
 
-/// The answer where no step is stopped: the sums, or Bits at the step after the last.
+/// Returns the result if no step is stopped: the sums, or `Bits` at the step after the last.
 fn added(
     alloc: Global,
     typed: &Typed,
@@ -59,7 +62,9 @@ fn added(
     n: u32,
 ) -> Result<Unrolled, AllocError>
     requires { n ≤ 10000 }
-    ensures { IfOk result (λ answer. unrolling_of answer ≡ sums_or (n + 1) (totals (procedure_at (procedures_of typed.now) p) (stored_outcomes runs.now))) }
+    ensures { IfOk result (λ answer. unrolling_of answer
+        ≡ sums_or (n + 1)
+        (totals (procedure_at (procedures_of typed.now) p) (stored_outcomes runs.now))) }
 {
     match sums(alloc, typed, p, runs)? {
         None => Ok(Unrolled::Bits(n + 1)),
@@ -67,7 +72,7 @@ fn added(
     }
 }
 
-/// The list of runs after n steps under the script, or what stops it first.
+/// Returns the list of runs after `n` steps under the script, or the first cause that stops them.
 fn after(
     alloc: Global,
     typed: &Typed,
@@ -78,7 +83,8 @@ fn after(
     requires rules { MeetsAllRules typed.now }
     requires within { AllWithin (procedures_of typed.now) 0 (runs_of start.entries.entries) }
     requires steps { n ≤ 10000 }
-    ensures { IfOk result (λ reached. IsAfter (procedures_of typed.now) script.now n (runs_of start.entries.entries) reached) }
+    ensures { IfOk result (λ reached.
+        IsAfter (procedures_of typed.now) script.now n (runs_of start.entries.entries) reached) }
 {
     let mut runs = start;
     for made in 0..n {
@@ -90,7 +96,7 @@ fn after(
     Ok(Reached::Runs(runs))
 }
 
-/// The answer where this stops the step of this number.
+/// Returns the result if `cause` stops the step.
 fn stopped(cause: Cause, step: u32) -> Unrolled
     ensures { unrolling_of result ≡ Unrolling.stopped cause step }
 {

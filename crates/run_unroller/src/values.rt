@@ -1,4 +1,4 @@
-//! Sums of values of runs, each times its weight.
+//! Weighted sums of values of runs.
 
 ghost use Rattle.std.specs.Prelude.{◌≡◌, ◌∷◌, [], Some, option_map};
 ghost use Rattle.heyvl_num.specs.ExtendedNumbers.{value_of};
@@ -6,7 +6,8 @@ ghost use Rattle.heyvl_acts.specs.Acts.{procedure_at};
 ghost use Rattle.heyvl_acts.specs.PlainActs.{procedures_of};
 ghost use Rattle.quant_algebra.specs.ExactMeaning.{exact_value};
 ghost use Rattle.run_machine.specs.Replies.{stored_outcome, stored_outcomes};
-ghost use Rattle.run_unroller.specs.Totals.{added, and_one, ended, post_of, post_total, reward_total};
+ghost use Rattle.run_unroller.specs.Totals.{added, and_one, ended, post_of, post_total};
+ghost use Rattle.run_unroller.specs.Totals.{reward_total};
 
 use heylo_formula::Val;
 use heyvl_acts::Typed;
@@ -14,9 +15,10 @@ use heyvl_num::{Ext, Frac};
 use quant_algebra::{At, value_at};
 use run_machine::Config;
 
-/// The post of the runs that have ended.
+/// Returns the weighted sum of the post over the terminated runs, or `None` if a number overflows.
 pub(crate) fn post_sum(typed: &Typed, p: u32, runs: &[(Frac, Config)]) -> Option<Ext>
-    ensures { option_map value_of result ≡ post_total (procedure_at (procedures_of typed.now) p).post (stored_outcomes runs.now) }
+    ensures { option_map value_of result
+        ≡ post_total (procedure_at (procedures_of typed.now) p).post (stored_outcomes runs.now) }
 {
     let mut sum = Ext::Fin(Frac::zero());
     for run in runs {
@@ -25,9 +27,11 @@ pub(crate) fn post_sum(typed: &Typed, p: u32, runs: &[(Frac, Config)]) -> Option
     Some(sum)
 }
 
-/// The sum and the post of one run more, times its weight, where the run has ended.
+/// Returns `sum` plus the weighted post of one more run, if this run has terminated.
 fn and_post(typed: &Typed, p: u32, sum: &Ext, run: &(Frac, Config)) -> Option<Ext>
-    ensures { option_map value_of result ≡ added (post_of (procedure_at (procedures_of typed.now) p).post) (Some (value_of sum.now)) (ended (stored_outcome run.now ∷ [])) }
+    ensures { option_map value_of result
+        ≡ added (post_of (procedure_at (procedures_of typed.now) p).post) (Some (value_of sum.now))
+        (ended (stored_outcome run.now ∷ [])) }
 {
     if !run.1.items.is_empty() {
         return Some(*sum);
@@ -36,9 +40,10 @@ fn and_post(typed: &Typed, p: u32, sum: &Ext, run: &(Frac, Config)) -> Option<Ex
     and_value(sum, &run.0, &post)
 }
 
-/// The procedure's post in a state; 0 where it isn't there.
+/// Returns the post of the procedure `p` in a state, or 0 if there is no such procedure.
 fn post_at(typed: &Typed, p: u32, state: &[Val]) -> Option<Ext>
-    ensures { option_map value_of result ≡ exact_value (procedure_at (procedures_of typed.now) p).post state.now }
+    ensures { option_map value_of result
+        ≡ exact_value (procedure_at (procedures_of typed.now) p).post state.now }
 {
     match typed.procs.get(p as usize) {
         None => Some(Ext::Fin(Frac::zero())),
@@ -49,7 +54,7 @@ fn post_at(typed: &Typed, p: u32, state: &[Val]) -> Option<Ext>
     }
 }
 
-/// The rewards of all runs.
+/// Returns the weighted sum of the rewards over all runs, or `None` if a number overflows.
 pub(crate) fn reward_sum(runs: &[(Frac, Config)]) -> Option<Ext>
     ensures { option_map value_of result ≡ reward_total (stored_outcomes runs.now) }
 {
@@ -60,9 +65,10 @@ pub(crate) fn reward_sum(runs: &[(Frac, Config)]) -> Option<Ext>
     Some(sum)
 }
 
-/// The sum and the value of one run more, times its weight.
+/// Returns `sum` plus `weight` times `value`.
 fn and_value(sum: &Ext, weight: &Frac, value: &Ext) -> Option<Ext>
-    ensures { option_map value_of result ≡ and_one (Some (value_of sum.now)) weight.now (Some (value_of value.now)) }
+    ensures { option_map value_of result
+        ≡ and_one (Some (value_of sum.now)) weight.now (Some (value_of value.now)) }
 {
     let product = Ext::Fin(*weight).mul(value)?;
     sum.add(&product)

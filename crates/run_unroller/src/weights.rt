@@ -1,4 +1,4 @@
-//! The weight of the runs that haven't ended.
+//! The mass not yet terminated.
 
 ghost use Rattle.std.specs.Prelude.{◌≡◌, ◌∷◌, [], Some};
 ghost use Rattle.run_machine.specs.Replies.{stored_outcome, stored_outcomes};
@@ -7,7 +7,7 @@ ghost use Rattle.run_unroller.specs.Totals.{added_weights, running, running_tota
 use heyvl_num::Frac;
 use run_machine::Config;
 
-/// The weight of the runs that haven't ended.
+/// Returns the sum of the weights of the runs that have not terminated, or `None` if it overflows.
 pub(crate) fn running_weight(runs: &[(Frac, Config)]) -> Option<Frac>
     ensures { result ≡ running_total (stored_outcomes runs.now) }
 {
@@ -18,7 +18,7 @@ pub(crate) fn running_weight(runs: &[(Frac, Config)]) -> Option<Frac>
     Some(sum)
 }
 
-/// The sum and the weight of one run more, where the run hasn't ended.
+/// Returns `sum` plus the weight of one more run, if this run has not terminated.
 fn and_weight(sum: &Frac, run: &(Frac, Config)) -> Option<Frac>
     ensures { result ≡ added_weights (Some sum.now) (running (stored_outcome run.now ∷ [])) }
 {

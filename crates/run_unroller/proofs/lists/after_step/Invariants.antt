@@ -10,7 +10,7 @@ use Rattle.run_unroller.specs.RunLists.{after_step, follow}
 use Rattle.run_unroller.specs.internal.RunViews.{runs_of}
 use Rattle.run_unroller.proofs.lists.after_step.Given as goal
 
--- What is left decides the cause, and joins the list.
+-- The runs that are left determine the cause, and their outcomes are added to the list.
 abbrev pub invariant-loop-config : goal.invariant-loop-config
 invariant-loop-config l = record {
   causes : step_cause (procedures_of l.typed) l.script (runs_of l.fn.runs.entries.entries) ≡ first_cause (runs_of l.next.entries.entries) (all_brought (procedures_of l.typed) l.script (runs_of l.config-iterator));

@@ -8,7 +8,7 @@ use Rattle.run_unroller.specs.MergedLists.{merged_onto}
 use Rattle.run_unroller.specs.internal.RunViews.{runs_of}
 use Rattle.run_unroller.proofs.lists.join_all.Given as goal
 
--- What is left decides the cause, and joins the list.
+-- The outcomes that are left determine the cause, and are added to the list.
 abbrev pub invariant-loop-outcome : goal.invariant-loop-outcome
 invariant-loop-outcome l = record {
   causes : (rest : List Brought) → first_cause (runs_of l.initial.next.entries.entries) (map (Brought.joins l.weight) (stored_outcomes l.fn.outcomes.items) ++ rest) ≡ first_cause (runs_of l.next.entries.entries) (map (Brought.joins l.weight) (stored_outcomes (into_iter_items l.outcome-iterator)) ++ rest);

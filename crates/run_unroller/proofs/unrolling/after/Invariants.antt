@@ -6,7 +6,7 @@ use Rattle.run_unroller.specs.internal.RunViews.{runs_of}
 use Rattle.run_unroller.specs.internal.Growth.{AllWithin}
 use Rattle.run_unroller.proofs.unrolling.after.Given as goal
 
--- No step up to now was stopped, and the list is that after them.
+-- No step so far was stopped, and the list is the one after these steps.
 abbrev pub invariant-loop-made : goal.invariant-loop-made
 invariant-loop-made l = record {
   free : first_stop (procedures_of l.typed) l.script l.made (runs_of l.fn.start.entries.entries) ≡ None;
