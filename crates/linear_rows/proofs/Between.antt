@@ -1,5 +1,8 @@
--- A shift that meets lower and upper bounds, where each lower one fits with each upper one.
--- The lower bound a wants `limit a / scale a` at most the shift, the upper bound b wants the shift at most `- limit b / scale b`.
+-- A shift that satisfies lower and upper bounds, if each lower bound is compatible with each upper
+-- bound.
+--
+-- A lower bound `a` demands that `limit a / scale a` is at most the shift. An upper bound `b`
+-- demands that the shift is at most `- limit b / scale b`.
 use Rattle.std.proofs.Common.{◌≡◌, ℕ, ◌*◌, ◌+◌, ◌<◌, List, [], ◌∷◌, arith, Bool, true, false, ◌||◌}
 use Rattle.std.specs.Prelude.{ℤ, pos, negsuc, ◌+ℤ◌, ◌*ℤ◌, ◌≤ℤ◌, ◌<ℤ◌}
 use Rattle.std.proofs.Math.IntN.{◌-ℤ◌, neg_ℤ}
@@ -12,7 +15,7 @@ use Rattle.heyvl_num.proofs.exported.Integers.{ring, ring_neg, ≤ℤ-scale, ≤
 use Rattle.linear_rows.specs.Points.{IsBelow}
 use Prim.Native.Nat.{zero, suc}
 
--- signs
+-- ---- Signs
 pub below-weak : (t : Bool) (z : ℤ) → IsBelow t z → z ≤ℤ pos 0
 below-weak true z h = omega (arith, ints)
 below-weak false z h = h
@@ -49,7 +52,7 @@ below-or_right true true z h = h
 below-or_right true false z h = below-weak true z h
 below-or_right false t z h = h
 
--- a sum: one of the two may be strict
+-- In a sum, one of the two may be strict.
 pub below-sum : (t : Bool) (a b : ℤ) → a ≤ℤ pos 0 → IsBelow t b → IsBelow t (a +ℤ b)
 below-sum true a b h k = omega (arith, ints)
 below-sum false a b h k = omega (arith, ints)
@@ -120,7 +123,7 @@ module _ {A : Type 0} (scale : A → ℕ) (limit : A → ℤ) (strict : A → Bo
       (λ l. record { most = g.most; is_positive = g.is_positive; keeps = g.keeps; above = All-cons (λ c. AtMost c g.most) a (b ∷ bs) (omega (arith, ints, l)) g.above })
       (λ l. record { most = a; is_positive = All-head (λ b. 0 < scale b) a (b ∷ bs) p; keeps = All-head P a (b ∷ bs) h; above = All-cons (λ c. AtMost c a) a (b ∷ bs) (omega (arith, ints)) (All-weaker (λ c. AtMost c g.most) (λ c. AtMost c a) (λ c k. AtMost-trans c g.most a g.is_positive k l) (b ∷ bs) g.above) })
 
-  -- the lower bound a and the upper bound b leave room
+  -- `Fits a b`: the lower bound `a` and the upper bound `b` are compatible.
   abbrev pub Fits : A → A → Type 0
   Fits a b = IsBelow (strict a || strict b) ((pos (scale b) *ℤ limit a) +ℤ (pos (scale a) *ℤ limit b))
 

@@ -20,9 +20,8 @@ drop_zero z = omega (arith, ints)
 differ : (a b : ℕ) → (a ≡ b → ⊥) → eqb a b ≡ false
 differ a b n = grind arith
 
--- ---- A number beyond all variables
+-- ---- A number above all variables
 
--- What holds of the first elements, and of one more.
 pub all_next : {X : Type 0} (P Q : X → Type 0) (xs : List X) (i : ℕ) (d : X) → i < length xs → All P (take i xs) → ((x : X) → P x → Q x) → Q (get_or xs i d) → All Q (take (suc i) xs)
 all_next P Q [] i d l h f q = absurd (omega arith)
 all_next P Q (x ∷ xs) zero d l h f q = All-cons Q x [] q (All-nil _)
@@ -61,7 +60,7 @@ all_taken P xs zero h = All-nil P
 all_taken P [] (suc k) h = All-nil P
 all_taken P (x ∷ xs) (suc k) h = All-cons P x (take k xs) (All-head P x xs h) (all_taken P xs k (All-tail P x xs h))
 
--- A variable beyond those of the rows that are used vanishes.
+-- A variable at or above the bound vanishes.
 pub beyond_vanishes : (x bound : ℕ) (ms : List (ℕ × ℕ)) (rows : List Row) → bound ≤ x → All (IsBeyondAt bound rows) ms → Vanishes x ms rows
 beyond_vanishes x bound ms rows a h = record {
   wide = record { wide = λ k. subst (λ z. unsigned_abs z < 2 ^ 126) (sym (all_absent x bound (take k ms) rows a (all_taken (IsBeyondAt bound rows) ms k h))) (omega arith) };
@@ -104,6 +103,6 @@ vanishing_of ms rows h x = record { wide = h.coefficients_wide x; zero = h.no_va
 pub unmet_of : (ms : List (ℕ × ℕ)) (rows : List Row) → IsContradiction ms rows → IsUnmet ms rows
 unmet_of ms rows h = record { wide = h.constants_wide; false_constant = h.false_constant }
 
--- What an element is, whatever stands for one beyond the list.
+-- An element within the list does not depend on the default.
 pub row_read : (rows : List Row) (i : ℕ) (r : Row) → r ≡ get_or rows i r → i < length rows → r ≡ row_at rows i
 row_read rows i r e l = get_or_read rows i r l e _

@@ -29,7 +29,6 @@ unfolding combined
 combined-left_side w [] rs = none_sum (pos w.below)
 combined-left_side w (m ∷ ms) rs = rw (combined-left_side w ms rs) (value_sum (pos m.1) (sum_at w.top (row_at rs m.0).terms) (row_at rs m.0).rest (pos w.below) (combined (λ s. sum_at w.top s.terms) ms rs) (combined (λ s. s.rest) ms rs))
 
--- The row 0 <= 0 is met, and so is each row of a list that is met.
 pub met_at : (w : Point) (rs : List Row) → All (Meets w) rs → (i : ℕ) → Meets w (row_at rs i)
 met_at w [] h i = record { met = below-same false _ (pos 0) (ap (λ z. z +ℤ (pos 0 *ℤ pos w.below)) (sum_at-nil w.top) ∙ sym (none_sum (pos w.below))) (omega (arith, ints)) }
 met_at w (r ∷ rs) h zero = All-head (Meets w) r rs h
@@ -65,11 +64,10 @@ positive_times (pos (suc n)) zero p q h = absurd (omega arith)
 positive_times (pos (suc n)) (suc d) p q h = omega (arith, ints)
 positive_times (negsuc n) d p q h = omega (arith, ints)
 
--- Where no variable is left, the sums of the terms are 0.
+-- If no variable is left, the sums of the terms are 0.
 no_terms : (w : Point) (ms : List (ℕ × ℕ)) (rs : List Row) → ((x : ℕ) → combined (λ r. coefficient x r.terms) ms rs ≡ pos 0) → combined (λ s. sum_at w.top s.terms) ms rs ≡ pos 0
 no_terms w ms rs h = sym (combined-sum w.top ms rs) ∙ ap (sum_at w.top) (all_zero (combined_terms ms rs) (combined-normal ms rs) (λ x. coefficient-is x (combined_terms ms rs) ∙ combined-sum (only x) ms rs ∙ combined-same (λ s. sum_at (only x) s.terms) (λ s. coefficient x s.terms) ms rs (λ r. sym (coefficient-is x r.terms)) ∙ h x)) ∙ sum_at-nil w.top
 
--- Rows with a contradiction aren't met anywhere.
 pub unmet : (ms : List (ℕ × ℕ)) (rows : List Row) → All (λ m. 0 < m.1) ms → ((x : ℕ) → combined (λ r. coefficient x r.terms) ms rows ≡ pos 0) → (pos 0 <ℤ combined (λ r. r.rest) ms rows) ⊎ ((combined (λ r. r.rest) ms rows ≡ pos 0) × (uses_strict ms rows ≡ true)) → IsMetSomewhere rows → ⊥
 unmet ms rows positive none constant s = go constant
   where

@@ -1,4 +1,4 @@
--- Where a variable occurs first, as rows come and go.
+-- The first row of a variable, when rows are added and removed.
 use Rattle.std.proofs.Common.{◌≡◌, ℕ, ◌+◌, ◌<◌, ◌≤◌, List, [], ◌∷◌, ◌++◌, length, take, get_or, refl, sym, ap, ◌∙◌, subst, arith, Bool, true, false, cond, eqb, ◌||◌}
 use Rattle.std.proofs.lemmas.Grind.{common_steps}
 use Rattle.std.proofs.lemmas.List.{get_or_default}
@@ -54,7 +54,7 @@ variable_there x i (q ∷ rows) = go (occurs_in_row x q) (variable_there x (i + 
 
 -- ---- All variables
 
--- the terms of one more row are noted
+-- The terms of one more row are added.
 pub record WasNoted (index : ℕ) (terms : List (ℕ × ℤ)) (old new : List (Option (ℕ × ℕ))) : Type 0 where
   pub same : length new ≡ length old
   pub each : (x : ℕ) → x < length old → get_or new x None ≡ option_or (get_or old x None) (here x index (list_any (λ t. eqb t.0 x) terms))
@@ -65,7 +65,7 @@ noted_row count index rows r o next h n w = let e : index ≡ 0 + length rows = 
   each = λ x l. w.each x (subst (λ m. x < m) (sym h.counted) l) ∙ ap (λ p. option_or p (here x index (occurs_in_row x r))) (h.each x l) ∙ ap (λ m. option_or (first_row x 0 rows) (here x m (occurs_in_row x r))) e ∙ sym (row_more x 0 rows r);
 }
 
--- the rows from a place on are forgotten
+-- The rows from an index on are removed.
 pub record WasForgotten (len : ℕ) (old new : List (Option (ℕ × ℕ))) : Type 0 where
   pub same : length new ≡ length old
   pub each : (x : ℕ) → x < length old → get_or new x None ≡ before len (get_or old x None)
@@ -76,7 +76,7 @@ first_noted count len rows o next h w = let e : len ≡ 0 + len = omega arith in
   each = λ x l. w.each x (subst (λ m. x < m) (sym h.counted) l) ∙ ap (before len) (h.each x l) ∙ ap (λ m. before m (first_row x 0 rows)) e ∙ sym (rows_before x 0 len rows);
 }
 
--- what stands there tells whether a variable occurs
+-- An entry of the table says whether the variable occurs.
 pub found_first : (count x : ℕ) (rows : List Row) (o : Occurrences) (first : List (Option (ℕ × ℕ))) (f d : Option (ℕ × ℕ)) → AreOccurrences count rows o → x < count → first ≡ o.first.items → f ≡ get_or first x d → option_map (λ (p : ℕ × ℕ). p.0) f ≡ cond (list_any (occurs_in_row x) rows) (Some x) None
 found_first count x rows o first f d h l e g =
     let same : f ≡ get_or o.first.items x None = g ∙ ap (λ xs. get_or xs x d) e ∙ get_or_default o.first.items x d None (subst (λ m. x < m) (sym h.counted) l) in

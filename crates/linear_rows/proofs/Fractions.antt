@@ -1,4 +1,4 @@
--- A point over a common denominator and fractions meet the same rows.
+-- A point over a common denominator satisfies the same rows as its fractions.
 use Rattle.std.proofs.Common.{◌≡◌, ℕ, ◌*◌, ◌/◌, ◌<◌, List, [], ◌∷◌, ◌++◌, map, refl, sym, ap, ap₂, ◌∙◌, ◌↔◌, arith, subst, Bool, true, false, eqb, ◌||◌}
 use Rattle.std.specs.Prelude.{ℤ, pos, ◌+ℤ◌, ◌*ℤ◌, ◌≤ℤ◌}
 use Rattle.std.proofs.Math.IntN.{zero-*ℤ}
@@ -29,7 +29,7 @@ less_from {x} {y} n = record { holds = go (leqʳ y x) refl }
     go true e = absurd (n (record { holds = e }))
     go false e = e
 
--- the point's fractions at the variables of the terms
+-- `Same f w ts`: `f` has the fractions of the point `w` at the variables of `ts`.
 unfoldable pub Same : (ℕ → Rational) → Point → List (ℕ × ℤ) → Type 0
 Same f w ts = All (λ t. f t.0 ≡ ratio (w.top t.0) w.below) ts
 
@@ -72,7 +72,7 @@ sign true z d p = (λ h. less_from (λ k. let m = ratio-≤_out (pos 0) 1 z d (z
 pub meets_alike : (f : ℕ → Rational) (w : Point) (r : Row) → Same f w r.terms → Meets w r ↔ MeetsAt f r
 meets_alike f w r h = (λ m. record { met = subst (IsBelowZero r.strict) (sym (value_is f w r h)) ((sign r.strict (left_side w r) w.below w.positive).0 m.met) }, λ m. record { met = (sign r.strict (left_side w r) w.below w.positive).1 (subst (IsBelowZero r.strict) (value_is f w r h) m.met) })
 
--- a common denominator of some variables
+-- A common denominator of the values of some variables.
 pub common_den : (ℕ → Rational) → List ℕ → ℕ
 common_den f [] = 1
 common_den f (v ∷ vs) = (f v).den * common_den f vs
@@ -100,7 +100,7 @@ point_same f vs v e = sym (ratio_parts (f v)) ∙ ratio_same (f v).num (f v).den
     regroup : (a b c : ℤ) → a *ℤ (b *ℤ c) ≡ (a *ℤ b) *ℤ c
     regroup a b c = simp ring
 
--- both meanings of solvable are one
+-- Both meanings of solvable agree.
 pub solvable_alike : (vs : List ℕ) (rows : List Row) → All (λ r. IsOver vs r.terms) rows → IsMetSomewhere rows ↔ IsSolvable rows
 unfolding Same
 solvable_alike vs rows h = (
@@ -154,6 +154,5 @@ over_variables (r ∷ rs) = All-cons (λ s. IsOver (variables (r ∷ rs)) s.term
     (All-weaker (λ t. is_in t.0 (map (λ t. t.0) r.terms) ≡ true) (λ t. is_in t.0 (variables (r ∷ rs)) ≡ true) (λ t e. in_left t.0 (map (λ t. t.0) r.terms) (variables rs) e) r.terms (in_own r.terms))
     (All-weaker (λ s. IsOver (variables rs) s.terms) (λ s. IsOver (variables (r ∷ rs)) s.terms) (λ s h. All-weaker (λ t. is_in t.0 (variables rs) ≡ true) (λ t. is_in t.0 (variables (r ∷ rs)) ≡ true) (λ t e. in_right t.0 (map (λ t. t.0) r.terms) (variables rs) e) s.terms h) rs (over_variables rs))
 
--- Rows are met at some point exactly where they are solvable.
 pub solvable_is : (rows : List Row) → IsSolvable rows ↔ IsMetSomewhere rows
 solvable_is rows = let h = solvable_alike (variables rows) rows (over_variables rows) in (h.1, h.0)

@@ -1,4 +1,4 @@
--- The value that is chosen in an interval is inside it, and whole for a whole type.
+-- The value chosen in an interval is inside it, and an integer for a type of integers.
 use Rattle.std.proofs.Common.{◌≡◌, ℕ, List, [], ◌∷◌, ◌++◌, refl, sym, ◌∙◌, subst, Bool, true, false, cond}
 use Rattle.std.specs.Prelude.{Option, Some, None}
 use Rattle.std.specs.List.{All}
@@ -91,7 +91,7 @@ beyond_from e v k h = subst (λ b. cond b (e.place ≤ʳ v) (e.place <ʳ v)) k h
 pub beyond_to : (e : End) (v : Rational) → e.inside ≡ false → IsUpTo e v → v <ʳ e.place
 beyond_to e v k h = subst (λ b. cond b (v ≤ʳ e.place) (v <ʳ e.place)) k h
 
--- the end of an interval is one
+-- The end of an interval is unique.
 pub one_end : (P : End → Type 0) (o : Option End) (e f : End) → o ≡ Some e → o ≡ Some f → P e → P f
 one_end P o e f k l p = let m : Some e ≡ Some f = sym k ∙ l in let n : e ≡ f = cc in subst P n p
 
@@ -103,7 +103,7 @@ no_end P o e k l = absurd (let m : None ≡ Some e = sym k ∙ l in cc)
 between : (i : Interval) (e f : End) (m : Rational) → i.low ≡ Some e → i.high ≡ Some f → e.place <ʳ m → m <ʳ f.place → IsInside i m
 between i e f m l h p q = record { from_low = λ d k. one_end (λ d. IsUpFrom d m) i.low e d l k (from_less e m p); to_high = λ d k. one_end (λ d. IsUpTo d m) i.high f d h k (to_less f m q) }
 
--- In an interval that some value w is inside, the choice is.
+-- If some value is inside an interval, the chosen value is inside.
 pub choice_inside : (i : Interval) (ty : Ty) (v w : Rational) → IsInside i w → IsChoice i ty v → IsInside i v
 choice_inside i _ _ w h (IsChoice.zero ty z) = z
 choice_inside i _ _ w h (IsChoice.nearest_whole ty v n k l a m) = a
@@ -142,11 +142,10 @@ choice_whole i _ _ (IsChoice.past_high e n l g k) t = absurd (cc)
 
 -- ---- All choices
 
--- A completion gives one more variable the value that it has there.
+-- A completion gives one more variable its value there.
 pub with_own : (rows : List Row) (cs : List (ℕ × Rational)) (x : ℕ) (h : IsCompleted rows cs) → IsCompleted rows (cs ++ (x, h.at_values x) ∷ [])
 with_own rows cs x h = record { at_values = h.at_values; agrees = All-push (λ c. h.at_values c.0 ≡ c.1) cs (x, h.at_values x) h.agrees refl; meets = h.meets }
 
--- What is chosen in the end is completed.
 pub completed : (rows : List Row) (vars : List Ty) (xs : List ℕ) (cs ds : List (ℕ × Rational)) → Chooses rows vars xs cs (Greedy.chose ds) → IsCompleted rows cs → IsCompleted rows ds
 completed rows vars _ _ ds (Chooses.ends _) h = h
 completed rows vars _ cs ds (Chooses.takes x xs _ i v _ a c r) h = completed rows vars xs (cs ++ (x, v) ∷ []) ds r ((a.values v).0 (choice_inside i (types_in vars x) v (h.at_values x) ((a.values (h.at_values x)).1 (with_own rows cs x h)) c))
@@ -154,7 +153,6 @@ completed rows vars _ cs ds (Chooses.takes x xs _ i v _ a c r) h = completed row
 abbrev pub AreWhole : List Ty → List (ℕ × Rational) → Type 0
 AreWhole vars cs = All (λ c. (is_integral (types_in vars c.0) ≡ true) → c.1.den ≡ 1) cs
 
--- Variables of whole types have whole values.
 pub chosen_whole : (rows : List Row) (vars : List Ty) (xs : List ℕ) (cs ds : List (ℕ × Rational)) → Chooses rows vars xs cs (Greedy.chose ds) → AreWhole vars cs → AreWhole vars ds
 chosen_whole rows vars _ _ ds (Chooses.ends _) h = h
 chosen_whole rows vars _ cs ds (Chooses.takes x xs _ i v _ a c r) h = chosen_whole rows vars xs (cs ++ (x, v) ∷ []) ds r (All-push (λ c. (is_integral (types_in vars c.0) ≡ true) → c.1.den ≡ 1) cs (x, v) h (choice_whole i (types_in vars x) v c))

@@ -1,4 +1,4 @@
--- The greedy choice for solvable rows ends in one way.
+-- The greedy choice for solvable rows has one outcome.
 use Rattle.std.proofs.Common.{◌≡◌, ℕ, ◌<◌, ◌≤◌, List, [], ◌∷◌, ◌++◌, length, get_or, refl, sym, ap, ap₂, ◌∙◌, subst, arith, Bool, true, false, cond, ◌⊎◌, inl, inr, ◌↔◌}
 use Rattle.std.specs.Prelude.{ℤ, pos, ◌≤ℤ◌, ◌*ℤ◌, unsigned_abs, reverse, Option, Some, None}
 use Prim.Native.Nat.{zero, suc}
@@ -66,7 +66,7 @@ high_place i j e f w s h k l = by_not f.place e.place (λ a.
     let m : IsInside i v = record { from_low = λ d q. from_more d w v (≤ʳ_trans w f.place v g (<ʳ-≤ʳ f.place v b)) (h.from_low d q); to_high = λ d q. one_end (λ d. IsUpTo d v) i.high e d k q (to_less e v (middle_below f.place e.place a)) } in
     <ʳ-not f.place v b (to_most f v (((s v).0 m).to_high f l)))
 
--- an end that belongs to one belongs to the other
+-- An end that is inside one interval is inside the other.
 low_inside : (i j : Interval) (e f : End) (w : Rational) → SameValues i j → IsInside i w → i.low ≡ Some e → j.low ≡ Some f → e.place ≡ f.place → e.inside ≡ true → f.inside ≡ false → ⊥
 low_inside i j e f w s h k l p a b =
     let g = from_most e w (h.from_low e k) in
@@ -124,13 +124,14 @@ an_interval l h = record { low = l; high = h }
 same_interval : (i j : Interval) (w : Rational) → SameValues i j → IsInside i w → i ≡ j
 same_interval i j w s h = ap₂ an_interval (low_same i j w s h) (high_same i j w s h)
 
--- ---- One choice in an interval
+-- ---- The choice in an interval is unique
 
--- 0 lies between
+-- 0 is between the two values.
 between_zero : (i : Interval) (v u : Rational) → IsInside i v → IsInside i u → v ≤ʳ zeroʳ → zeroʳ ≤ʳ u → IsInside i zeroʳ
 between_zero i v u a b h k = record { from_low = λ d q. from_more d v zeroʳ h (a.from_low d q); to_high = λ d q. to_fewer d u zeroʳ k (b.to_high d q) }
 
--- what a UReal takes on the side of the low end, or of the high one, where 0 isn't inside
+-- `low_value e high`: the choice of a `UReal` above the lower end `e`, if 0 is not inside;
+-- `high_value` is its mirror image.
 abbrev low_value : End → Option End → Rational
 low_value e (Some f) = cond e.inside e.place (middleʳ e.place f.place)
 low_value e None = cond e.inside e.place (e.place +ʳ oneʳ)
@@ -227,7 +228,7 @@ one_kind i ty v u w h (Kind.at_high d n t l p e) (Kind.at_high d' n' t' l' p' f)
 pub one_choice : (i : Interval) (ty : Ty) (v u w : Rational) → IsInside i w → IsChoice i ty v → IsChoice i ty u → v ≡ u
 one_choice i ty v u w h a b = one_kind i ty v u w h (kind_of i ty v a) (kind_of i ty u b)
 
--- where some value can be chosen, the interval doesn't break
+-- If some value can be chosen, the interval contains an integer.
 chosen_or_broken : (i : Interval) (ty : Ty) (v : Rational) → IsChoice i ty v → IsBroken i ty → ⊥
 chosen_or_broken i ty v a b = go (kind_of i ty v a)
   where
@@ -237,7 +238,7 @@ chosen_or_broken i ty v a b = go (kind_of i ty v a)
     go (Kind.at_low d n t l p e) = not_real ty b.whole_type t
     go (Kind.at_high d n t l p e) = not_real ty b.whole_type t
 
--- ---- One way of choosing
+-- ---- The choices of all variables are unique
 
 same_values : (rows : List Row) (cs : List (ℕ × Rational)) (x : ℕ) (i j : Interval) → IsIntervalOf rows cs x i → IsIntervalOf rows cs x j → SameValues i j
 same_values rows cs x i j a b v = (λ h. (b.values v).1 ((a.values v).0 h), λ h. (a.values v).1 ((b.values v).0 h))
@@ -266,7 +267,7 @@ one_way rows vars _ cs _ _ h (Chooses.breaks x xs _ i p c) (Chooses.breaks _ _ _
 pub choices_unique : ChoicesAreUnique
 choices_unique rows vars a b s p q = one_way rows vars (reverse (order_of rows (length vars))) [] a b (record { at_values = s.at_values; agrees = All-nil _; meets = s.meets }) p q
 
--- ---- One point
+-- ---- The greedy point is unique
 
 same_lists : (p q : List Val) → length p ≡ length q → ((x : ℕ) → x < length p → get_or p x (Truth false) ≡ get_or q x (Truth false)) → p ≡ q
 same_lists [] [] e h = refl

@@ -17,7 +17,6 @@ times_only : (c : ℤ) (b : Bool) → cond b c (pos 0) ≡ c *ℤ cond b (pos 1)
 times_only c true = omega (arith, ints)
 times_only c false = sym (*ℤ-zero c)
 
--- a coefficient is a sum too
 pub coefficient-is : (x : ℕ) (ts : List (ℕ × ℤ)) → coefficient x ts ≡ sum_at (only x) ts
 unfolding coefficient
 coefficient-is x [] = sym (sum_at-nil (only x))
@@ -32,12 +31,13 @@ mix_step k d a x y s t = simp ring
 mix_nil : (k d : ℤ) → pos 0 ≡ (k *ℤ pos 0) +ℤ (d *ℤ pos 0)
 mix_nil k d = rw (*ℤ-zero k, *ℤ-zero d) refl
 
--- sums are linear in the point
+-- Sums are linear in the point.
 pub sum_at-mix : (k d : ℤ) (f g : ℕ → ℤ) (ts : List (ℕ × ℤ)) → sum_at (λ v. (k *ℤ f v) +ℤ (d *ℤ g v)) ts ≡ (k *ℤ sum_at f ts) +ℤ (d *ℤ sum_at g ts)
 sum_at-mix k d f g [] = rw (sum_at-nil (λ v. (k *ℤ f v) +ℤ (d *ℤ g v)), sum_at-nil f, sum_at-nil g) (mix_nil k d)
 sum_at-mix k d f g (t ∷ ts) = rw (sum_at-cons (λ v. (k *ℤ f v) +ℤ (d *ℤ g v)) t ts, sum_at-cons f t ts, sum_at-cons g t ts, sum_at-mix k d f g ts) (mix_step k d t.1 (f t.0) (g t.0) (sum_at f ts) (sum_at g ts))
 
--- the point with the denominator k times as great, and x moved by d
+-- `moved x k h d w`: the point `w` with its denominator multiplied by `k`, and the numerator of `x`
+-- increased by `d`.
 abbrev pub moved : ℕ → (k : ℕ) → 0 < k → ℤ → Point → Point
 moved x k h d w = record { below = k * w.below; positive = mul-pos h w.positive; top = λ v. (pos k *ℤ w.top v) +ℤ (d *ℤ only x v) }
 

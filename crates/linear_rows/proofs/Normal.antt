@@ -1,4 +1,4 @@
--- Sums whose variables grow: they are told by their coefficients.
+-- Sums with increasing variables: their coefficients determine them.
 use Rattle.std.proofs.Common.{◌≡◌, ℕ, ◌<◌, List, [], ◌∷◌, refl, sym, ap, ap₂, ◌∙◌, arith, subst, Bool, true, false, cond, eqb, ltb, ◌||◌}
 use Rattle.std.specs.Prelude.{ℤ, pos, negsuc, ◌+ℤ◌, ◌*ℤ◌}
 use Rattle.std.proofs.Math.IntN.{*ℤ-zero}
@@ -23,7 +23,7 @@ put-all P v (pos zero) ts p h = h
 put-all P v (pos (suc n)) ts p h = All-cons P (v, pos (suc n)) ts p h
 put-all P v (negsuc n) ts p h = All-cons P (v, negsuc n) ts p h
 
--- what holds of variables alone
+-- A property of all variables is preserved.
 add_term-all : (P : ℕ → Type 0) (v : ℕ) (c : ℤ) (ts : List (ℕ × ℤ)) → P v → All (λ t. P t.0) ts → All (λ t. P t.0) (add_term v c ts)
 unfolding add_term
 add_term-all P v c [] p h = put-all (λ t. P t.0) v c [] p h
@@ -60,7 +60,7 @@ unfolding add_terms
 add-all P k [] us h l = l
 add-all P k (t ∷ ts) us h l = add_term-all P t.0 (k *ℤ t.1) (add_terms k ts us) (All-head (λ t. P t.0) t ts h) (add-all P k ts us (All-tail (λ t. P t.0) t ts h) l)
 
--- no coefficient stands at a variable before the first
+-- A variable below the first one has the coefficient 0.
 pub later : (x : ℕ) (ts : List (ℕ × ℤ)) → All (λ u. x < u.0) ts → coefficient x ts ≡ pos 0
 unfolding coefficient
 later x [] h = refl
@@ -92,7 +92,7 @@ fewer x xs ts k e h = All-both (λ t. eqb t.0 x ≡ false) (λ t. is_in t.0 (x �
     go true b h k = absurd (cc)
     go false b h k = k
 
--- terms in which each coefficient is 0 are none
+-- A normal sum whose coefficients are all 0 is empty.
 pub all_zero : (ts : List (ℕ × ℤ)) → IsNormal ts → ((x : ℕ) → coefficient x ts ≡ pos 0) → ts ≡ []
 all_zero [] k h = refl
 all_zero (t ∷ ts) k h = absurd (differ t.0 (All-head (λ u. eqb u.0 t.0 ≡ false) t ts (lacks t.0 (t ∷ ts) k (h t.0))))

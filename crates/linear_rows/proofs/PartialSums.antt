@@ -13,11 +13,12 @@ use Rattle.linear_rows.specs.Combination.{row_at, combined, uses_strict, IsWideT
 use Rattle.linear_rows.specs.internal.Columns.{AreMultipliers}
 use Rattle.linear_rows.proofs.Positions.{from, at_end, take_none}
 
--- Each partial sum of the rest, begun at z, is below 2^126.
+-- `IsWideFrom F z ms rows`: each partial sum that starts at `z` is below 2^126 in absolute value.
 pub record IsWideFrom (F : Row → ℤ) (z : ℤ) (ms : List (ℕ × ℕ)) (rows : List Row) : Type 0 where
   pub wide : (k : ℕ) → unsigned_abs (z +ℤ combined F (take k ms) rows) < 2 ^ 126
 
--- What a loop keeps: the sum so far, and that the partial sums are narrow exactly where those of the rest are.
+-- The invariant of a loop: the sum so far, and that all partial sums fit exactly if those of the
+-- rest do.
 pub record Sums (F : Row → ℤ) (z : ℤ) (i : ℕ) (ms : List (ℕ × ℕ)) (rows : List Row) : Type 0 where
   pub fits : unsigned_abs z < 2 ^ 126
   pub value : z +ℤ combined F (drop i ms) rows ≡ combined F ms rows
@@ -59,7 +60,7 @@ wide_cons F z m ms rows f h = record { wide = go }
     go zero = subst (λ y. unsigned_abs y < 2 ^ 126) (sym (ap (λ y. z +ℤ y) (combined-nil F rows) ∙ zero_right z)) f
     go (suc k) = subst (λ y. unsigned_abs y < 2 ^ 126) (sym (shifted F z m (take k ms) rows)) (h.wide k)
 
--- the first partial sum is the beginning
+-- The first partial sum is the start value.
 begins : (F : Row → ℤ) (z : ℤ) (ms : List (ℕ × ℕ)) (rows : List Row) → IsWideFrom F z ms rows → unsigned_abs z < 2 ^ 126
 begins F z ms rows h = subst (λ y. unsigned_abs y < 2 ^ 126) (ap (λ y. z +ℤ y) (combined-nil F rows) ∙ zero_right z) (h.wide 0)
 
@@ -111,14 +112,15 @@ strict_found i ms rows d l h n = go (get_or ms i d) (from ms i d l) n
 pub strict_end : (i : ℕ) (ms : List (ℕ × ℕ)) (rows : List Row) → length ms ≤ i → uses_strict (drop i ms) rows ≡ uses_strict ms rows → false ≡ uses_strict ms rows
 strict_end i ms rows l h = sym (strict-nil rows) ∙ ap (λ xs. uses_strict xs rows) (sym (at_end ms i l)) ∙ h
 
--- ---- Which lists are multipliers
+-- ---- Lists of multipliers
 
--- The same, from an index on.
+-- `AreFrom least count ms`: the multipliers `ms` have increasing indexes from `least` on, below
+-- `count`.
 abbrev pub AreFrom : ℕ → ℕ → List (ℕ × ℕ) → Type 0
 AreFrom least count [] = Unit {0}
 AreFrom least count (m ∷ ms) = (least ≤ m.0) × (m.0 < count) × (0 < m.1) × (m.1 < 2 ^ 62) × AreFrom (m.0 + 1) count ms
 
--- What a loop keeps.
+-- The invariant of a loop.
 pub record Checks (least i count : ℕ) (ms : List (ℕ × ℕ)) : Type 0 where
   pub so_far : AreFrom least count (drop i ms) → AreFrom 0 count ms
   pub rest : AreFrom 0 count ms → AreFrom least count (drop i ms)
@@ -135,7 +137,7 @@ checks_next least i count ms d l h a b p q = go (get_or ms i d) (from ms i d l) 
       rest = λ w. (subst (AreFrom least count) k (h.rest w)).4;
     }
 
--- What the next entry is.
+-- `IsNextEntry least count m`: the entry `m` may follow if the next index is at least `least`.
 pub record IsNextEntry (least count : ℕ) (m : ℕ × ℕ) : Type 0 where
   pub grows : least ≤ m.0
   pub within : m.0 < count
@@ -151,7 +153,7 @@ checks_at least i count ms d l h w = go (get_or ms i d) (from ms i d l)
 pub checks_end : (least i count : ℕ) (ms : List (ℕ × ℕ)) → length ms ≤ i → Checks least i count ms → AreFrom 0 count ms
 checks_end least i count ms l h = h.so_far (subst (AreFrom least count) (sym (at_end ms i l)) tt)
 
--- the indexes from some index on
+-- All indexes are at least the least one.
 least_of : (least count : ℕ) (ms : List (ℕ × ℕ)) → AreFrom least count ms → All (λ n. least ≤ n.0) ms
 least_of least count [] h = All-nil _
 least_of least count (m ∷ ms) h = All-cons (λ n. least ≤ n.0) m ms h.0 (weaker ms (least_of (m.0 + 1) count ms h.4))
@@ -185,9 +187,8 @@ pub from_any : (ms : List (ℕ × ℕ)) → All (λ n. 0 ≤ n.0) ms
 from_any [] = All-nil _
 from_any (m ∷ ms) = All-cons (λ n. 0 ≤ n.0) m ms (omega arith) (from_any ms)
 
--- ---- What the code's numbers are
+-- ---- The numbers that the program computes
 
--- A number of a row as the code has it, and the row that it is of.
 pub number_read : (F : Row → ℤ) (rows : List Row) (i : ℕ) (r : Row) (n : ℤ) → r ≡ row_at rows i → n ≡ F r → unsigned_abs n < 2 ^ 62 → to_z w64 (of_z w64 n) ≡ F (row_at rows i)
 number_read F rows i r n e h k = ap (λ z. to_z w64 (of_z w64 z)) h ∙ to_z-of_z w64 (F r) (fits_signed_from_abs w64 (F r) (let l = subst (λ z. unsigned_abs z < 2 ^ 62) h k in omega (arith, l))) ∙ ap F e
 

@@ -1,4 +1,4 @@
--- What a loop over a list has before it: the element at its place, and the rest.
+-- The elements of a list from a place on.
 use Rattle.std.proofs.Common.{◌≡◌, ℕ, ◌+◌, ◌<◌, ◌≤◌, List, [], ◌∷◌, length, drop, take, get_or, refl, ap, ◌∙◌, arith}
 use Prim.Native.Nat.{zero, suc}
 use Rattle.std.proofs.Math.Seq.{drop-cons}
@@ -7,7 +7,6 @@ use Rattle.std.proofs.Math.ListN.{drop_of_length-le}
 next_place : (i : ℕ) → suc i ≡ i + 1
 next_place i = omega arith
 
--- The elements from the i-th on.
 pub from : {A : Type 0} (xs : List A) (i : ℕ) (d : A) → i < length xs → drop i xs ≡ get_or xs i d ∷ drop (i + 1) xs
 from xs i d l = drop-cons xs i d l ∙ ap (λ n. get_or xs i d ∷ drop n xs) (next_place i)
 

@@ -1,4 +1,4 @@
--- Lists of terms that are told to be the same are equal, and equal ones are told so.
+-- The comparison of lists of terms is true exactly if the lists are equal.
 use Rattle.std.proofs.Common.{◌≡◌, ℕ, List, [], ◌∷◌, refl, ap, ap₂, subst, arith, Bool, true, false, eqb, ◌&&◌, length}
 use Rattle.std.specs.Prelude.{ℤ, pos, negsuc, IsTrue, ◌↔◌}
 use Rattle.std.proofs.lemmas.Bool.{eqb-true, and_from}

@@ -1,4 +1,4 @@
--- What sums are at given values of their variables.
+-- The values of sums at given values of their variables.
 use Rattle.std.proofs.Common.{◌≡◌, ℕ, List, [], ◌∷◌, refl, arith, Bool, true, false, cond, eqb, ltb}
 use Rattle.std.specs.Prelude.{ℤ, pos, negsuc, ◌+ℤ◌, ◌*ℤ◌}
 use borrow.Author.Differences.{ints}

@@ -1,4 +1,4 @@
--- How the code walks over lists of terms.
+-- The walks of the program over lists of terms.
 use Rattle.std.proofs.Common.{◌≡◌, ℕ, ◌++◌, append_assoc, append-nil, ◌+◌, ◌-◌, ◌<◌, ◌≤◌, ◌^◌, List, [], ◌∷◌, length, drop, get_or, refl, sym, ap, ap₂, ◌∙◌, arith, subst, eqb, cond, Bool, true, false, ◌&&◌, nat_lt, to_z, of_z, FitsSigned}
 use Rattle.std.specs.Prelude.{ℤ, pos, negsuc, ◌+ℤ◌, ◌*ℤ◌, unsigned_abs}
 use borrow.Author.Differences.{ints}
@@ -18,7 +18,6 @@ use Rattle.linear_rows.specs.internal.NextTerms.{IsNextTerm}
 use Rattle.linear_rows.specs.Divisors.{common, divided_terms}
 use Rattle.linear_rows.proofs.Normal.{coefficient-cons, coefficient-nil, head_coef, take_first, take_second, take_both}
 
--- the terms from the i-th on
 pub from : (ts : List (ℕ × ℤ)) (i : ℕ) (d : ℕ × ℤ) → i < length ts → drop i ts ≡ get_or ts i d ∷ drop (i + 1) ts
 from ts i d l = drop-cons ts i d l ∙ ap (λ n. get_or ts i d ∷ drop n ts) (next i)
   where

@@ -1,4 +1,4 @@
--- Numbers below the bound, and their signs.
+-- Limits of numbers, and their signs.
 use Rattle.std.specs.Prelude.{◌&&◌, pos, negsuc, Bool, true, false, not}
 use Rattle.heyvl_num.specs.Rational.{Rational, ratio, zeroʳ, leqʳ}
 use Rattle.linear_rows.specs.Terms.{is_narrow}
@@ -7,11 +7,12 @@ use Rattle.linear_rows.specs.Terms.{is_narrow}
 unfoldable pub minus_oneʳ : Rational
 minus_oneʳ = ratio (negsuc 0) 1
 
--- The numerator and the denominator, in lowest terms, are below 2^62 in absolute value.
+-- `fits x`: the numerator and the denominator of `x` in lowest terms are below 2^62 in absolute
+-- value.
 unfoldable pub fits : Rational → Bool
 fits x = is_narrow x.num && is_narrow (pos x.den)
 
--- Whether a number is at most 0 or, where strict, below 0.
+-- `is_negative x strict`: `x` is at most 0 or, if `strict`, below 0.
 abbrev pub is_negative : Rational → Bool → Bool
 is_negative x false = leqʳ x zeroʳ
 is_negative x true = not (leqʳ zeroʳ x)

@@ -1,14 +1,15 @@
--- Lists of terms that are the same.
+-- Equality of lists of terms.
 use Rattle.std.specs.Prelude.{ℕ, List, [], ◌∷◌, ℤ, pos, negsuc, Bool, true, false, eqb, ◌&&◌}
 
--- Whether two whole numbers are equal.
+-- `same_number i k`: the integers `i` and `k` are equal.
 abbrev pub same_number : ℤ → ℤ → Bool
 same_number (pos a) (pos b) = eqb a b
 same_number (pos a) (negsuc b) = false
 same_number (negsuc a) (pos b) = false
 same_number (negsuc a) (negsuc b) = eqb a b
 
--- Whether two lists have the same variables with the same coefficients, in the same order.
+-- `same_terms ts us`: the lists have the same variables with the same coefficients, in the same
+-- order.
 abbrev pub same_terms : List (ℕ × ℤ) → List (ℕ × ℤ) → Bool
 same_terms [] [] = true
 same_terms [] (u ∷ us) = false

@@ -1,5 +1,5 @@
-//! Numbers that are too great.
+//! The error of numbers that overflow.
 
-/// A number is too great.
+/// An overflow: a number has more than 62 bits, or more than 126 bits on the way.
 #[derive(Clone, Copy)]
 pub struct TooGreat;

@@ -1,4 +1,7 @@
-//! Rows, the points that meet them, and their combinations.
+//! Rows (linear inequalities with integer coefficients), the points that satisfy them, and their
+//! combinations.
+//!
+//! `AllocError` means that memory ran out.
 #![tactic(auto)]
 
 mod bounds;

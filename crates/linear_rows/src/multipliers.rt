@@ -1,23 +1,28 @@
-//! Rows added up with multipliers.
+//! Sums of rows times multipliers, and the check that such a sum is a contradiction.
+//!
+//! Multipliers are a list of pairs: the index of a row, and how often the row is added.
 
-ghost use Rattle.std.specs.Prelude.{◌≡◌, ◌↔◌, ◌+◌, ℕ, ◌<◌, ◌≤◌, ◌^◌, ℤ, pos, ◌+ℤ◌, ◌*ℤ◌, length, true, IsTrue, unsigned_abs};
+ghost use Rattle.std.specs.Prelude.{◌≡◌, ◌↔◌, ◌+◌, ℕ, ◌<◌, ◌≤◌, ◌^◌, ℤ, pos, ◌+ℤ◌, ◌*ℤ◌, length};
+ghost use Rattle.std.specs.Prelude.{true, IsTrue, unsigned_abs};
 ghost use Rattle.std.specs.List.{All};
 ghost use Rattle.std.specs.Option.{SomeIff};
 ghost use Rattle.linear_rows.specs.Row.{IsRow};
-ghost use Rattle.linear_rows.specs.Combination.{combined, uses_strict, IsWideThroughout, IsContradiction};
-ghost use Rattle.linear_rows.specs.internal.Columns.{number_in, AreMultipliers, IsBeyondAt, Vanishes, IsUnmet};
+ghost use Rattle.linear_rows.specs.Combination.{combined, uses_strict, IsWideThroughout};
+ghost use Rattle.linear_rows.specs.Combination.{IsContradiction};
+ghost use Rattle.linear_rows.specs.internal.Columns.{number_in, AreMultipliers, IsBeyondAt};
+ghost use Rattle.linear_rows.specs.internal.Columns.{Vanishes, IsUnmet};
 
 use crate::row::Row;
 use crate::terms::coefficient_of;
 
-/// A number of each row: its constant, or its coefficient of a variable.
+/// A column of the rows: their constants, or their coefficients of one variable.
 #[derive(Clone, Copy)]
 enum Column {
     Constant,
     Coefficient(u32),
 }
 
-/// The row's number in a column.
+/// Returns the number of `row` in `column`.
 fn number_of(row: &Row, column: Column) -> i64
     requires row { IsRow row.now }
     ensures value { result ≡ number_in column row.now }
@@ -29,7 +34,6 @@ fn number_of(row: &Row, column: Column) -> i64
     }
 }
 
-/// A multiple of a row's number.
 fn multiple(multiplier: u64, number: i64) -> i128
     requires multiplier_narrow { multiplier < 2 ^ 62 }
     requires number_narrow { unsigned_abs number < 2 ^ 62 }
@@ -39,12 +43,13 @@ fn multiple(multiplier: u64, number: i64) -> i128
     i128::from(multiplier) * i128::from(number)
 }
 
-/// A multiple of a row's number added to a sum; none where the sum reaches 2^126.
+/// Returns `sum + multiplier * number`, or None if its absolute value is 2^126 or more.
 fn added(sum: i128, multiplier: u64, number: i64) -> Option<i128>
     requires sum_wide { unsigned_abs sum < 2 ^ 126 }
     requires multiplier_narrow { multiplier < 2 ^ 62 }
     requires number_narrow { unsigned_abs number < 2 ^ 62 }
-    ensures { SomeIff result (unsigned_abs (sum +ℤ (pos multiplier *ℤ number)) < 2 ^ 126) (sum +ℤ (pos multiplier *ℤ number)) }
+    ensures { SomeIff result (unsigned_abs (sum +ℤ (pos multiplier *ℤ number)) < 2 ^ 126)
+        (sum +ℤ (pos multiplier *ℤ number)) }
 {
     if number == 0 {
         return Some(sum);
@@ -58,11 +63,13 @@ fn added(sum: i128, multiplier: u64, number: i64) -> Option<i128>
     }
 }
 
-/// The sum of the rows' numbers in a column, each as often as its multiplier says; none where a partial sum reaches 2^126.
+/// Returns the sum of the rows' numbers in `column`, each times its multiplier, or None if the
+/// absolute value of a partial sum is 2^126 or more.
 fn total(rows: &[Row], multipliers: &[(u32, u64)], column: Column) -> Option<i128>
     requires rows { All IsRow rows.now }
     requires multipliers { AreMultipliers (length rows.now) multipliers.now }
-    ensures { SomeIff result (IsWideThroughout (number_in column) multipliers.now rows.now) (combined (number_in column) multipliers.now rows.now) }
+    ensures { SomeIff result (IsWideThroughout (number_in column) multipliers.now rows.now)
+        (combined (number_in column) multipliers.now rows.now) }
 {
     let mut sum = 0;
     for &(index, multiplier) in multipliers {
@@ -75,7 +82,7 @@ fn total(rows: &[Row], multipliers: &[(u32, u64)], column: Column) -> Option<i12
     Some(sum)
 }
 
-/// Whether one of the rows that are used is strict.
+/// Returns whether a row that has a multiplier is strict.
 fn is_strict(rows: &[Row], multipliers: &[(u32, u64)]) -> bool
     requires multipliers { AreMultipliers (length rows.now) multipliers.now }
     ensures { result ≡ uses_strict multipliers.now rows.now }
@@ -89,7 +96,8 @@ fn is_strict(rows: &[Row], multipliers: &[(u32, u64)]) -> bool
     false
 }
 
-/// Whether the indexes grow and are those of rows, and each multiplier is from 1 to 2^62 - 1.
+/// Returns whether the indexes increase and are below `count`, and each multiplier is from 1 to
+/// 2^62 - 1.
 fn are_multipliers(count: usize, multipliers: &[(u32, u64)]) -> bool
     ensures { IsTrue result ↔ AreMultipliers count multipliers.now }
 {
@@ -104,7 +112,7 @@ fn are_multipliers(count: usize, multipliers: &[(u32, u64)]) -> bool
     true
 }
 
-/// The greater of two numbers.
+/// Returns the larger of two numbers.
 fn greater(first: u64, second: u64) -> u64
     ensures first { first ≤ result }
     ensures second { second ≤ result }
@@ -113,7 +121,7 @@ fn greater(first: u64, second: u64) -> u64
     if first < second { second } else { first }
 }
 
-/// A number beyond all variables of some terms.
+/// Returns a number above all variables of `terms`.
 fn beyond(terms: &[(u32, i64)]) -> u64
     ensures above { All (λ t. t.0 < result) terms.now }
     ensures within { result ≤ 2 ^ 32 }
@@ -125,7 +133,7 @@ fn beyond(terms: &[(u32, i64)]) -> u64
     least
 }
 
-/// A number beyond all variables of the rows that are used.
+/// Returns a number above all variables of the rows that have a multiplier.
 fn beyond_used(rows: &[Row], multipliers: &[(u32, u64)]) -> u64
     requires multipliers { AreMultipliers (length rows.now) multipliers.now }
     ensures above { All (IsBeyondAt result rows.now) multipliers.now }
@@ -139,7 +147,8 @@ fn beyond_used(rows: &[Row], multipliers: &[(u32, u64)]) -> u64
     least
 }
 
-/// Whether no partial sum of the variable's coefficients reaches 2^126, and they add up to 0.
+/// Returns whether the coefficients of `variable`, times the multipliers, add up to 0, and each
+/// partial sum is below 2^126 in absolute value.
 fn vanishes(rows: &[Row], multipliers: &[(u32, u64)], variable: u32) -> bool
     requires rows { All IsRow rows.now }
     requires multipliers { AreMultipliers (length rows.now) multipliers.now }
@@ -151,7 +160,7 @@ fn vanishes(rows: &[Row], multipliers: &[(u32, u64)], variable: u32) -> bool
     }
 }
 
-/// Whether no variable is left.
+/// Returns whether every variable vanishes from the sum of the rows.
 fn all_vanish(rows: &[Row], multipliers: &[(u32, u64)]) -> bool
     requires rows { All IsRow rows.now }
     requires multipliers { AreMultipliers (length rows.now) multipliers.now }
@@ -165,7 +174,8 @@ fn all_vanish(rows: &[Row], multipliers: &[(u32, u64)]) -> bool
     true
 }
 
-/// Whether the constants add up to a row without variables that nothing meets, and no partial sum reaches 2^126.
+/// Returns whether the constants, times the multipliers, add up to a number above 0, or to 0 while
+/// a strict row has a multiplier, and each partial sum is below 2^126 in absolute value.
 fn is_unmet(rows: &[Row], multipliers: &[(u32, u64)]) -> bool
     requires rows { All IsRow rows.now }
     requires multipliers { AreMultipliers (length rows.now) multipliers.now }
@@ -177,7 +187,9 @@ fn is_unmet(rows: &[Row], multipliers: &[(u32, u64)]) -> bool
     }
 }
 
-/// Whether the multipliers combine the rows to a contradiction.
+/// Returns whether `multipliers` combine `rows` to a contradiction, such as `1 <= 0` or `0 < 0`.
+///
+/// The rows `1 - x <= 0` and `x < 0` with the multipliers 1 and 1 combine to `1 < 0`.
 pub fn contradicts(rows: &[Row], multipliers: &[(u32, u64)]) -> bool
     requires { All IsRow rows.now }
     ensures { IsTrue result ↔ IsContradiction multipliers.now rows.now }

@@ -2,7 +2,8 @@
 
 ghost use Rattle.linear_rows.specs.RowLaws as law;
 
-/// A contradiction excludes solutions, and points over a common denominator are as good as fractions.
+/// States that rows with a contradiction have no solution, and that solvable rows have a solution
+/// over a common denominator.
 pub fn solutions_of_rows()
     ensures contradictions { law.ContradictionsExclude }
     ensures points { law.PointsSuffice }

@@ -1,9 +1,10 @@
-//! Lists of terms that are the same.
+//! Equality of lists of terms.
 
 ghost use Rattle.std.specs.Prelude.{◌≡◌};
 ghost use Rattle.linear_rows.specs.SameTerms.{same_terms};
 
-/// Whether two rows have the same terms.
+/// Returns whether `a` and `b` have the same variables with the same coefficients, in the same
+/// order.
 pub fn have_same_terms(a: &[(u32, i64)], b: &[(u32, i64)]) -> bool
     ensures { result ≡ same_terms a.now b.now }
 {

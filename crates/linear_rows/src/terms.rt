@@ -1,15 +1,19 @@
-//! Lists of terms: a variable's number and its coefficient, by growing number.
-ghost use Rattle.std.specs.Prelude.{◌≡◌, ◌<◌, ◌≤◌, ◌^◌, ◌+◌, ◌*ℤ◌, ◌++◌, [], ℤ, pos, ◌<ℤ◌, ◌&&◌, int_div, length, drop, unsigned_abs, is_some, IfOk, IfSome, SomeIff};
+//! Lists of terms: pairs of a variable's number and its coefficient, in increasing order of the
+//! numbers.
+ghost use Rattle.std.specs.Prelude.{◌≡◌, ◌<◌, ◌≤◌, ◌^◌, ◌+◌, ◌*ℤ◌, ◌++◌, [], ℤ, pos, ◌<ℤ◌, ◌&&◌};
+ghost use Rattle.std.specs.Prelude.{int_div, length, drop, unsigned_abs, is_some, IfOk, IfSome};
+ghost use Rattle.std.specs.Prelude.{SomeIff};
 ghost use Rattle.std.specs.List.{All};
 ghost use Rattle.linear_rows.specs.Terms.{coefficient, IsNormal, put_term};
-ghost use Rattle.linear_rows.specs.TermResults.{scaled_terms, merged_terms, mixed_terms, are_wide, are_narrow};
+ghost use Rattle.linear_rows.specs.TermResults.{scaled_terms, merged_terms, mixed_terms, are_wide};
+ghost use Rattle.linear_rows.specs.TermResults.{are_narrow};
 ghost use Rattle.linear_rows.specs.internal.NextTerms.{IsNextTerm};
 ghost use Rattle.linear_rows.specs.Divisors.{divisor, divided_terms};
 
 use heyvl_num::gcd;
 use std::alloc::{AllocError, Global};
 
-/// The coefficient of a variable, 0 where there is none.
+/// Returns the coefficient of `x` in `terms`: 0 if `x` does not occur.
 pub fn coefficient_of(terms: &[(u32, i64)], x: u32) -> i64
     requires normal { IsNormal terms.now }
     requires narrow { All (λ t. unsigned_abs t.1 < 2 ^ 62) terms.now }
@@ -24,7 +28,7 @@ pub fn coefficient_of(terms: &[(u32, i64)], x: u32) -> i64
     0
 }
 
-/// The product, or None where it reaches 2^126 in absolute value.
+/// Returns `p * c`, or None if its absolute value is 2^126 or more.
 pub fn wide_product(p: i128, c: i64) -> Option<i128>
     ensures { SomeIff result (unsigned_abs (p *ℤ c) < 2 ^ 126) (p *ℤ c) }
 {
@@ -37,14 +41,16 @@ pub fn wide_product(p: i128, c: i64) -> Option<i128>
     }
 }
 
-/// Each coefficient times p, or None where a product reaches 2^126 in absolute value.
+/// Returns `terms` with each coefficient multiplied by `p`, or None if the absolute value of a
+/// product is 2^126 or more.
 pub fn scaled(
     alloc: Global,
     p: i128,
     terms: &[(u32, i64)],
 ) -> Result<Option<Vec<(u32, i128)>>, AllocError>
     ensures terms { IfOk result (λ o. IfSome o (λ ts. ts.items ≡ scaled_terms p terms.now)) }
-    ensures wide { IfOk result (λ o. IfSome o (λ ts. All (λ t. unsigned_abs t.1 < 2 ^ 126) ts.items)) }
+    ensures wide { IfOk result
+        (λ o. IfSome o (λ ts. All (λ t. unsigned_abs t.1 < 2 ^ 126) ts.items)) }
     ensures fits { IfOk result (λ o. is_some o ≡ are_wide p terms.now) }
 {
     let mut out: Vec<(u32, i128)> = Vec::new(alloc);
@@ -57,7 +63,7 @@ pub fn scaled(
     Ok(Some(out))
 }
 
-/// Puts a term at the end, if it isn't 0.
+/// Appends the term `(v, c)`, unless `c` is 0.
 fn push_term(out: &mut Vec<(u32, i128)>, v: u32, c: i128) -> Result<(), AllocError>
     ensures { IfOk result (λ _. out.new.items ≡ out.old.items ++ put_term v c []) }
 {
@@ -67,7 +73,7 @@ fn push_term(out: &mut Vec<(u32, i128)>, v: u32, c: i128) -> Result<(), AllocErr
     Ok(())
 }
 
-/// The next term of a merge, and the places after it.
+/// The next term of a merge, and the places after it in the left and the right list.
 #[derive(Clone, Copy)]
 struct Next {
     var: u32,
@@ -76,7 +82,8 @@ struct Next {
     right: usize,
 }
 
-/// The term of the lower variable at the two places, from the one list, the other or both.
+/// Returns the term of the lower variable at the places `i` of `a` and `j` of `b`; if both have it,
+/// the sum of their coefficients.
 fn next_term(a: &[(u32, i128)], i: usize, b: &[(u32, i128)], j: usize) -> Next
     requires left_normal { IsNormal (drop i a.now) }
     requires right_normal { IsNormal (drop j b.now) }
@@ -132,7 +139,7 @@ fn next_term(a: &[(u32, i128)], i: usize, b: &[(u32, i128)], j: usize) -> Next
     }
 }
 
-/// The sum of two lists of terms.
+/// Returns the sum of the linear sums `a` and `b`, without terms whose coefficient is 0.
 pub fn merged(
     alloc: Global,
     a: &[(u32, i128)],
@@ -156,7 +163,8 @@ pub fn merged(
     Ok(out)
 }
 
-/// p times the first terms and q times the second, or None where a product on the way reaches 2^126 in absolute value.
+/// Returns `p * a + q * b`, or None if a product of a coefficient is 2^126 or more in absolute
+/// value.
 pub fn mixed(
     alloc: Global,
     p: i128,
@@ -180,7 +188,7 @@ pub fn mixed(
     Ok(Some(merged(alloc, &left, &right)?))
 }
 
-/// The greatest number that divides a number and each coefficient; 1 where all are 0.
+/// Returns the greatest common divisor of `n` and all coefficients, or 1 if all of them are 0.
 pub fn divisor_of(terms: &[(u32, i128)], n: u128) -> u128
     ensures value { result ≡ divisor terms.now n }
     ensures positive { 0 < result }
@@ -195,10 +203,11 @@ pub fn divisor_of(terms: &[(u32, i128)], n: u128) -> u128
     if common == 0 { 1 } else { common }
 }
 
-/// The quotient, rounded toward 0, or None where it reaches 2^62 in absolute value.
+/// Returns `c / divisor`, rounded toward 0, or None if its absolute value is 2^62 or more.
 pub fn narrow_quotient(c: i128, divisor: u128) -> Option<i64>
     requires { 0 < divisor }
-    ensures { SomeIff result (unsigned_abs (int_div c (pos divisor)) < 2 ^ 62) (int_div c (pos divisor)) }
+    ensures { SomeIff result (unsigned_abs (int_div c (pos divisor)) < 2 ^ 62)
+        (int_div c (pos divisor)) }
 {
     let quotient = c.unsigned_abs() / divisor;
     if quotient < 1 << 62 {
@@ -209,7 +218,8 @@ pub fn narrow_quotient(c: i128, divisor: u128) -> Option<i64>
     }
 }
 
-/// Each coefficient divided, or None where a quotient reaches 2^62 in absolute value.
+/// Returns `terms` with each coefficient divided by `divisor`, rounded toward 0, or None if the
+/// absolute value of a quotient is 2^62 or more.
 pub fn divided(
     alloc: Global,
     terms: &[(u32, i128)],

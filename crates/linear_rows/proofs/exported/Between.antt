@@ -1,2 +1,3 @@
--- Meant for the proofs of other crates. A shift that meets lower and upper bounds, where each lower one fits with each upper one.
+-- For the proofs of other crates: a shift that satisfies lower and upper bounds, if each lower
+-- bound is compatible with each upper bound.
 pub use Rattle.linear_rows.proofs.Between.{All-both, Shift, below-both, below-cancel, below-same, below-scale, below-strong, below-weak, between}

@@ -1,2 +1,3 @@
--- Meant for the proofs of other crates. Rows that multipliers combine to a contradiction have no solution.
+-- For the proofs of other crates: rows that multipliers combine to a contradiction have no
+-- solution.
 pub use Rattle.linear_rows.proofs.Combinations.{contradiction_unmet, contradiction_unsolvable, unmet}

@@ -1,3 +1,4 @@
--- Meant for the proofs of other crates. A point over a common denominator and fractions meet the same rows.
+-- For the proofs of other crates: a point over a common denominator satisfies the same rows as its
+-- fractions.
 pub use Rattle.linear_rows.proofs.Fractions.{meets_alike, point_of, point_same, solvable_is}
 unfoldable pub use Rattle.linear_rows.proofs.Fractions.{Same}

@@ -1,2 +1,3 @@
--- Meant for the proofs of other crates. Sums whose variables grow: they are told by their coefficients.
+-- For the proofs of other crates: sums with increasing variables, which their coefficients
+-- determine.
 pub use Rattle.linear_rows.proofs.Normal.{add-all, add-normal, fewer}

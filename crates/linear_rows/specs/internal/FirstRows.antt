@@ -1,11 +1,11 @@
--- Where a variable occurs first, as rows come and go.
+-- The first row of a variable, when rows are added and removed.
 use Rattle.std.specs.Prelude.{ℕ, Bool, Option, Some, None, ltb, if◌then◌else◌}
 
--- A variable and the index of a row, where it occurs in that row.
+-- `here x row occurs`: the variable `x` and the index `row`, if `x` occurs in this row.
 abbrev pub here : ℕ → ℕ → Bool → Option (ℕ × ℕ)
 here x row occurs = if occurs then Some (x, row) else None
 
--- Where a variable occurs first, if that row is before a place.
+-- `before len first`: the entry `first` if its row is before `len`.
 abbrev pub before : ℕ → Option (ℕ × ℕ) → Option (ℕ × ℕ)
 before len None = None
 before len (Some f) = if ltb f.1 len then Some f else None

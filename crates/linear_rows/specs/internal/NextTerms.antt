@@ -3,9 +3,12 @@ use Rattle.linear_rows.specs.TermResults.{merged_terms}
 use Rattle.linear_rows.specs.Terms.{IsNormal, put_term}
 use Rattle.std.specs.Prelude.{◌≡◌, ℕ, ◌<◌, ◌≤◌, ◌+◌, List, ℤ, drop, length}
 
--- The term (v, c) comes first from the places i and j, and k and l are the places after it.
-pub record IsNextTerm (ts : List (ℕ × ℤ)) (i : ℕ) (us : List (ℕ × ℤ)) (j v : ℕ) (c : ℤ) (k l : ℕ) : Type 0 where
-  pub split : merged_terms (drop i ts) (drop j us) ≡ put_term v c (merged_terms (drop k ts) (drop l us))
+-- `IsNextTerm ts i us j v c k l`: from the places `i` of `ts` and `j` of `us` on, the first term of
+-- the merge is `(v, c)`, none if `c` is 0, and `k` and `l` are the places after it.
+pub record IsNextTerm (ts : List (ℕ × ℤ)) (i : ℕ) (us : List (ℕ × ℤ)) (j v : ℕ) (c : ℤ) (k l : ℕ)
+    : Type 0 where
+  pub split : merged_terms (drop i ts) (drop j us)
+      ≡ put_term v c (merged_terms (drop k ts) (drop l us))
   pub left_normal : IsNormal (drop k ts)
   pub right_normal : IsNormal (drop l us)
   pub left_within : k ≤ length ts
