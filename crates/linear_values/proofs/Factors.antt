@@ -1,4 +1,4 @@
--- The factor that makes coefficients whole, term by term from the last one.
+-- The factor that makes coefficients integers, term by term from the last one.
 use Rattle.std.proofs.Common.{◌≡◌, ℕ, length, ◌==◌, ◌+◌, ◌*◌, ◌/◌, ◌<◌, ◌≤◌, ◌^◌, [], ◌∷◌, refl, sym, ap, ap₂, ◌∙◌, arith, lit<, subst, Bool, true, false, ◌&&◌, ◌||◌, to_z, of_z, FitsSigned}
 use Rattle.std.specs.Prelude.{ℤ, pos, negsuc, ◌*ℤ◌, ◌<ℤ◌, neg_ℤ, unsigned_abs, Some, None}
 use borrow.Author.Differences.{ints}
@@ -45,9 +45,9 @@ divisor_scaled k m (t ∷ ts) p h = ap₂ gcd (ap (λ n. unsigned_abs t.1.num * 
     turned : (n k q : ℕ) → n * (k * q) ≡ n * q * k
     turned n k q = omega arith
 
--- ---- The factor of one term more
+-- ---- The factor of one more term
 
--- With e the greatest common divisor of d and m: the new multiple times e, and the new divisor times e.
+-- The new multiple and the new divisor times e, the greatest common divisor of d and m.
 new_multiple : (t : ℕ × Rational) (ts : Terms) → common_multiple (t ∷ ts) * gcd t.1.den (common_multiple ts) ≡ t.1.den * common_multiple ts
 unfolding common_multiple
 new_multiple t ts = let d = t.1.den in let m = common_multiple ts in ap (λ n. n * gcd d m) (lcm_right d m (multiple_positive ts)) ∙ turned (d / gcd d m) m (gcd d m) ∙ ap (λ n. n * m) (quotient_num d m)
@@ -82,7 +82,6 @@ new_divisor t ts =
     positive_left zero b h = absurd (let z : 0 * b ≡ 0 = omega arith in omega (arith, z))
     positive_left (suc a) b h = omega arith
 
--- the factor over the new parts
 factor_cross : (x d m g h e : ℕ) → 0 < e → (y z : ℕ) → x * e ≡ d * m → y * e ≡ h → z * h ≡ g * d → x * g ≡ z * m * y
 factor_cross x d m g h e p y z r s k = cancel (x * g) (z * m * y) e p (let u = ap (λ n. n * g) r in let v = ap (λ n. n * (z * m)) s in let w = ap (λ n. n * m) k in omega (arith, u, v, w))
   where
@@ -115,7 +114,7 @@ factor_step t u us n =
     product_den : (m g : ℕ) (x : Rational) → 0 < g → (ratio (pos m) g *ʳ x).den * gcd (unsigned_abs x.num * m) (g * x.den) ≡ g * x.den
     product_den m g x q = ap (λ (n : ℕ). n * gcd (unsigned_abs x.num * m) (g * x.den)) (ap (λ (y : Rational). (ratio (pos m) g *ʳ y).den) (sym (ratio_parts x)) ∙ ap (λ (y : Rational). y.den) (ratio-* (pos m) g x.num x.den q x.positive) ∙ ratio_den (pos m *ℤ x.num) (g * x.den) (mul-pos q x.positive) ∙ ap (λ n. g * x.den / gcd n (g * x.den)) (unsigned_abs-mul (pos m) x.num ∙ flipped m (unsigned_abs x.num))) ∙ quotient_den (unsigned_abs x.num * m) (g * x.den)
 
--- ---- Whole numbers
+-- ---- Integers
 
 pub whole_num : (k : ℤ) → (whole k).num ≡ k
 unfolding whole
@@ -124,7 +123,6 @@ whole_num k = ratio_num-lowest k 1 (lit< tt) (gcd_one (unsigned_abs k))
     gcd_one : (n : ℕ) → gcd n 1 ≡ 1
     gcd_one n = eq-one_of_dvd-one (gcd-is n 1).1
 
--- a whole number over a fraction
 pub quotient_is : (k : ℤ) (x w : Rational) → is_zeroʳ x ≡ false → w *ʳ x ≡ whole k → quotient (k *ℤ pos x.den) x.num ≡ w
 unfolding quotient whole is_zeroʳ
 quotient_is k x w n e = go x.num n (ratio_equal_cross (w.num *ℤ x.num) (w.den * x.den) k 1 (mul-pos w.positive x.positive) (lit< tt) (sym (ratio-* w.num w.den x.num x.den w.positive x.positive) ∙ ap₂ (λ a b. a *ʳ b) (ratio_parts w) (ratio_parts x) ∙ e))
@@ -152,7 +150,6 @@ quotient_is k x w n e = go x.num n (ratio_equal_cross (w.num *ℤ x.num) (w.den 
 same_bits : (k n : ℤ) → FitsSigned w128 k → FitsSigned w128 n → of_z w128 k ≡ of_z w128 n → k ≡ n
 same_bits k n f g e = omega (arith, ints)
 
--- The numerator of a fraction over it is the denominator.
 pub own_quotient : (k n : ℤ) (x w q : Rational) → FitsSigned w128 k → FitsSigned w128 n → n ≡ x.num → of_z w128 k ≡ of_z w128 n → q ≡ whole (pos x.den) → is_zeroʳ x ≡ false → w *ʳ x ≡ whole k → q ≡ w
 unfolding whole
 own_quotient k n x w q f g e b d z h = d ∙ sym (quotient_is k x (whole (pos x.den)) z (sym (cleared x) ∙ ap whole (sym e ∙ sym (same_bits k n f g b)))) ∙ quotient_is k x w z h
@@ -175,7 +172,7 @@ the_quotient k k' n' x p q h f z = rw (p, q, z, small (k *ℤ pos x.den) (let m 
 pub quotient_found : (k b d : ℤ) (x : Rational) → FitsSigned w128 k → FitsSigned w128 b → FitsSigned w128 d → b ≡ pos x.den → d ≡ x.num → unsigned_abs k < 2 ^ 62 → fits x ≡ true → is_zeroʳ x ≡ false → exact_quotient (to_z w128 (of_z w128 (to_z w128 (of_z w128 k) *ℤ to_z w128 (of_z w128 b)))) (to_z w128 (of_z w128 d)) ≡ Some (quotient (k *ℤ pos x.den) x.num)
 quotient_found k b d x f g r p q h n z = let u = seen k k refl f in let v = seen b (pos x.den) p g in the_quotient k _ _ x (seen _ _ (ap₂ (λ a b. a *ℤ b) u v) (product_in_range k (pos x.den) _ _ u v h (den_less x n))) (seen d x.num q r) h n z
 
--- ---- What the factor makes of each term
+-- ---- Each term times the factor
 
 entry : (b : ℕ) (w x : Rational) → (w *ʳ x).den ≡ 1 → ((ratio (pos b) 1 *ʳ w) *ʳ x).num ≡ pos b *ℤ (w *ʳ x).num
 entry b w x e = ap (λ (r : Rational). r.num) (*ʳ_assoc (ratio (pos b) 1) w x ∙ ap (λ y. ratio (pos b) 1 *ʳ y) (sym (whole_back (w *ʳ x) e)) ∙ product_whole b (w *ʳ x).num) ∙ whole_num (pos b *ℤ (w *ʳ x).num)
@@ -211,7 +208,6 @@ times_wide b w (t ∷ ts) p h e = go (is_narrow (w *ʳ t.1).num) refl e (times_w
 pub wide_rest : (t u : ℕ × Rational) (us : Terms) → AreNonzero (t ∷ u ∷ us) → are_narrow (whole_terms (factor (u ∷ us)) (u ∷ us)) ≡ false → are_narrow (whole_terms (factor (t ∷ u ∷ us)) (t ∷ u ∷ us)) ≡ false
 wide_rest t u us n e = right_false _ _ (subst (λ w. are_narrow (whole_terms w (u ∷ us)) ≡ false) (sym (factor_step t u us n)) (times_wide (factor (u ∷ us) *ʳ t.1).den (factor (u ∷ us)) (u ∷ us) (factor (u ∷ us) *ʳ t.1).positive (factor_whole u us n.1) e))
 
--- the new term, times the new factor
 pub head_product : (t u : ℕ × Rational) (us : Terms) → AreNonzero (t ∷ u ∷ us) → factor (t ∷ u ∷ us) *ʳ t.1 ≡ whole (factor (u ∷ us) *ʳ t.1).num
 head_product t u us n = ap (λ w. w *ʳ t.1) (factor_step t u us n) ∙ *ʳ_assoc (ratio (pos (factor (u ∷ us) *ʳ t.1).den) 1) (factor (u ∷ us)) t.1 ∙ sym (cleared (factor (u ∷ us) *ʳ t.1))
 
@@ -296,7 +292,7 @@ normal_nonzero (t ∷ ts) h = (number t.1 h.0, normal_nonzero ts h.1.1)
     number : (x : Rational) → is_zeroʳ x ≡ false → x.num ≡ pos 0 → ⊥
     number x e f = absurd (let k = positive_num x e in let m = ap unsigned_abs f in omega (arith, k, m))
 
--- ---- What the code makes of the terms, from their first one and the others
+-- ---- The factor of a list, from its first term and the factor of the others
 
 pub only_factor : (ts rest : Terms) (t : ℕ × Rational) (q : Rational) → ts ≡ t ∷ rest → length rest ≡ 0 → AreNormal ts → ((w : Rational) → w *ʳ t.1 ≡ whole (sign_of t.1.num) → q ≡ w) → q ≡ factor ts
 only_factor ts [] t q e l n h = h (factor (t ∷ [])) (single_product t (normal_nonzero (t ∷ []) (rw e at n)).0) ∙ ap factor (sym e)
@@ -320,7 +316,7 @@ none_left n b e f = let g : (n == 0) ≡ true = sym e ∙ f in grind arith
 pub some_left : (n : ℕ) (b : Bool) → b ≡ (n == 0) → b ≡ false → 0 < n
 some_left n b e f = let g : (n == 0) ≡ false = sym e ∙ f in grind arith
 
--- ---- The whole numbers of a row
+-- ---- The integers of a row
 
 pub scaled_entry : (s : ℤ) (w x : Rational) → (w *ʳ x).den ≡ 1 → ((ratio s 1 *ʳ w) *ʳ x).num ≡ s *ℤ (w *ʳ x).num
 unfolding whole

@@ -1,4 +1,4 @@
--- Terms stay growing and without zeros.
+-- Operations preserve increasing variables and no zeros.
 use Rattle.std.proofs.Common.{Bool, true, false, cond, ◌≡◌, ℕ, ◌<◌, [], ◌∷◌, refl, ap₂, ◌∙◌, arith, ◌==◌, ltb, ◌||◌}
 use Rattle.heyvl_num.specs.Rational.{Rational, zeroʳ, ◌+ʳ◌, ◌*ʳ◌}
 use Rattle.heyvl_num.specs.Value.{is_zeroʳ}

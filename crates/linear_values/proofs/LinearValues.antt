@@ -17,7 +17,6 @@ same_truth true false f g = sym (f refl)
 same_truth false true f g = g refl
 same_truth false false f g = refl
 
--- two tests of the order agree where the orders do
 same_order : (a b c d : Rational) → (a ≤ʳ b) ↔ (c ≤ʳ d) → leqʳ a b ≡ leqʳ c d
 same_order a b c d h = same_truth _ _ (λ e. (h.0 (record { holds = e })).holds) (λ e. (h.1 (record { holds = e })).holds)
 

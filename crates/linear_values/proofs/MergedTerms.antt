@@ -12,7 +12,7 @@ use Rattle.linear_values.proofs.KeptTerms.{above_less}
 use Rattle.linear_rows.proofs.exported.Narrow.{fits_negated}
 use Rattle.linear_values.proofs.Products.{multiple}
 
--- ---- One term put in
+-- ---- One term added
 
 apart : (x y : ℕ) → x < y → (y == x) ≡ false
 apart x y h = grind arith
@@ -38,9 +38,8 @@ earlier x c t ts h z = rw (before x t.0 h, below x t.0 h, z)
 same : (x : ℕ) (c : Rational) (t : ℕ × Rational) (ts : Terms) → x ≤ t.0 → t.0 ≤ x → more x c (t ∷ ts) ≡ unless_zero x (t.1 +ʳ c) ts
 same x c t ts h k = rw (level x t.0 h k)
 
--- ---- Terms put in, one after the other
+-- ---- Terms added in order
 
--- A term below those that are put in stays in front.
 pub passed : (t : ℕ × Rational) (us ts : Terms) → IsAbove t.0 us → merged us (t ∷ ts) ≡ t ∷ merged us ts
 passed t [] ts h = refl
 passed t (u ∷ us) ts h = ap (merged us) (later u.0 u.1 t ts h.0) ∙ passed t us (more u.0 u.1 ts) h.1
@@ -108,7 +107,6 @@ module _ (d : Bool) (us ts made made' left left' right : Terms) (u : ℕ × Rati
   unfolded : merged (signed_terms d left) right ≡ merged (signed_terms d left') (more u.0 (signed_number d u.1) right)
   unfolded = ap (λ l. merged (signed_terms d l) right) e ∙ ap (λ l. merged l right) (signed_first d u left')
 
-  -- No other terms are left on the right.
   pub left_alone : length right ≡ 0 → made' ≡ made ++ ((u.0, signed_number d u.1) ∷ []) → IsMergedSoFar d us ts made' left' right
   left_alone n m = record {
     whole = h.whole ∙ ap (λ z. made ++ z) (unfolded ∙ go right n) ∙ sym (append_assoc made ((u.0, signed_number d u.1) ∷ []) _) ∙ ap (λ z. z ++ merged (signed_terms d left') right) (sym m);

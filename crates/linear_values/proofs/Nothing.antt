@@ -21,7 +21,6 @@ pub nothing_is : (x : Linear) → is_nothing x ≡ true → x ≡ Some (constant
 nothing_is (Some a) h = let e = no_rest a.rest (has_no_terms a.terms) h in ap₂ (λ ts r. Some (record { terms = ts; rest = r })) (no_terms a.terms e.0) e.1
 nothing_is None h = absurd (cc)
 
--- the sum of terms with none
 pub alone : (us : Terms) → AreNormal us → merged us [] ≡ us
 alone [] h = refl
 alone (u ∷ us) h = ap (merged us) put ∙ passed u us [] h.1.0 ∙ ap (λ z. u ∷ z) (alone us h.1.1)

@@ -1,4 +1,4 @@
--- The product of two fractions in lowest terms, reduced crosswise before it is made.
+-- The product of two fractions in lowest terms, whose factors are reduced crosswise first.
 use Rattle.std.proofs.Common.{◌≡◌, ℕ, ◌<◌, ◌*◌, ◌/◌, ◌^◌, refl, sym, ap, ap₂, ◌∙◌, subst, arith, Bool, true, false, cond, ◌&&◌, nat_lt, unsigned_abs, ◌≤◌, ◌+◌, FitsSigned}
 use Rattle.std.specs.Prelude.{Some, None}
 use Rattle.std.proofs.Math.IntN.{ℤ, pos, negsuc, ◌*ℤ◌}
@@ -78,14 +78,12 @@ product_den w c = ap (λ x. x.den) (crosswise w c) ∙ ratio_den-lowest _ _ (mul
 small_of : (n : ℕ) (z : ℤ) → n ≡ unsigned_abs z → n < 2 ^ 62 → is_small z ≡ true
 small_of n z e k = small z (omega arith)
 
--- a product that is below the bound is found
 pub found_product : (w c : Rational) → fits (w *ʳ c) ≡ true → exact_product (ratio w.num c.den) (ratio c.num w.den) ≡ Some (ratio w.num c.den *ʳ ratio c.num w.den)
 unfolding exact_product product_fits
 found_product w c h = rw (small_of _ _ (ap unsigned_abs (product_num w c)) (num_less (w *ʳ c) h), small_of _ (pos (ratio w.num c.den).den *ℤ pos (ratio c.num w.den).den) (product_den w c) (den_less (w *ʳ c) h))
 
--- ---- What the code finds
+-- ---- The results of the program
 
--- the parts of a fraction that is made of two others
 pub crossed_some : (x y r : Rational) (n d : ℤ) → n ≡ x.num → d ≡ pos y.den → Some r ≡ exact_quotient n d → r ≡ ratio x.num y.den
 unfolding quotient
 crossed_some x y r n d e f h = exact_quotient_some n d r h ∙ ap₂ (λ n d. quotient n d) e f
@@ -108,7 +106,6 @@ large n h = grind arith
 small_den : (y : Rational) → fits y ≡ true → is_small (pos y.den) ≡ true
 small_den y h = small (pos y.den) (let k = den_less y h in omega arith)
 
--- a large number over a small one stays large
 quotient_large : (q g : ℕ) → 2 ^ 127 ≤ q * g → g < 2 ^ 62 → 2 ^ 62 ≤ q
 quotient_large q g h k = not_less (nat_lt q (2 ^ 62)) refl
   where

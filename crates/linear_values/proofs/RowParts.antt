@@ -19,7 +19,7 @@ use Rattle.linear_values.specs.WholeTimes.{AreWholeTimes}
 use Rattle.linear_values.proofs.TightRows.{factor_whole}
 use Rattle.linear_values.proofs.Factors.{times_wide, normal_nonzero}
 
--- The row with whole variables, and the row with a UReal.
+-- The row with integer variables, and the row with a UReal.
 abbrev pub whole_row : Terms → Rational → Bool → Row
 whole_row ts c strict = record { terms = whole_terms (ratio (pos 1) 1 *ʳ factor ts) ts; rest = rounded strict (factor ts *ʳ c); strict = false }
 
@@ -118,7 +118,6 @@ finish : (a m : Bool) (r q : Row) → m ≡ true → q ≡ r → cond a (Some q)
 finish true m r q e f = ap Some f ∙ ap (λ b. chosen b r) (sym e)
 finish false m r q e f = refl
 
--- the choice that the types make
 choice : (types : Types) (ts : Terms) (c w k : Rational) (strict : Bool) (d : Bool) → 0 < length ts → is_sized (record { terms = ts; rest = c }) ≡ true → w ≡ factor ts → Some k ≡ exact_product w c → d ≡ are_whole types ts → tightened types (claim_of ts c strict) ≡ row_choice true d (WholeRow w ts c strict) (ExactRow w ts c strict)
 choice types ts c w k strict d h z e f g = row_of types ts c w strict h z e ∙ ap₂ (λ p d. row_choice p d (WholeRow w ts c strict) (ExactRow w ts c strict)) (made_fits w c k f) (sym g)
 
@@ -145,7 +144,7 @@ made_exact types ts c w k strict d m s r o h z e f g i j l n x =
     ∙ finish (are_narrow (ExactRow w ts c strict).terms) (is_narrow (w *ʳ c).num) (ExactRow w ts c strict) (record { terms = (ExactRow w ts c strict).terms; rest = r; strict = strict }) (ap is_narrow (sym v) ∙ ap is_narrow q.1 ∙ q.0) (ap (λ z. record { terms = (ExactRow w ts c strict).terms; rest = z; strict = strict }) v)
     ∙ sym (choice types ts c w k strict d h z e f g ∙ ap (λ d. row_choice true d (WholeRow w ts c strict) (ExactRow w ts c strict)) i)
 
--- ---- Without terms, and where a number is too large before
+-- ---- Without terms, and if a number of the claim overflows
 
 pub too_large : (types : Types) (a : Lin) (strict : Bool) → is_sized a ≡ false → None ≡ tightened types (record { left = a; strict = strict })
 unfolding tightened

@@ -1,4 +1,4 @@
--- A claim that holds in a state gives a row that the state's values meet.
+-- If a claim holds in a state, the state's values satisfy its row.
 use Rattle.std.proofs.Common.{◌≡◌, ℕ, ◌*◌, ◌/◌, ◌<◌, List, [], ◌∷◌, refl, sym, ap, ap₂, ◌∙◌, arith, lit<, subst, Bool, true, false, not, cond, ◌&&◌, ◌==◌}
 use Rattle.std.specs.Prelude.{ℤ, pos, negsuc, ◌+ℤ◌, ◌*ℤ◌, ◌≤ℤ◌, neg_ℤ, unsigned_abs, Option, Some, None}
 use borrow.Author.Differences.{ints}
@@ -33,7 +33,7 @@ use Rattle.std.proofs.lemmas.List.Elements.{All-nil, All-cons}
 use Rattle.linear_rows.specs.VariableTypes.{is_integral}
 use Rattle.linear_values.specs.WholeTimes.{AreWholeTimes}
 
--- ---- Whole numbers among the fractions
+-- ---- Integers as fractions
 
 pub whole_back : (x : Rational) → x.den ≡ 1 → whole x.num ≡ x
 unfolding whole
@@ -101,7 +101,7 @@ positive-* v w p q = record {
   one = exchange q.inverse p.inverse v w ∙ ap₂ (λ x y. x *ʳ y) p.one q.one ∙ one-*ʳ oneʳ;
 }
 
--- ---- The factor makes the coefficients whole
+-- ---- The factor makes the coefficients integers
 
 pub lcm_left : (d m : ℕ) → 0 < m → d * m / gcd d m ≡ d * (m / gcd d m)
 lcm_left d m p = ap (λ n. n / gcd d m) (split d (m / gcd d m) (gcd d m) m (quotient_den d m)) ∙ mul-div_cancel (d * (m / gcd d m)) (pos_of_dvd_of_pos (gcd-is d m).1 p)
@@ -167,7 +167,6 @@ pub divisor_positive : (m : ℕ) (t : ℕ × Rational) (ts : Terms) → 0 < m �
 unfolding common_divisor
 divisor_positive m t ts p n h = pos_of_dvd_of_pos (gcd-is (unsigned_abs t.1.num * (m / t.1.den)) (common_divisor m ts)).0 (mul-pos (abs_positive t.1.num n) (quotient_positive t.1.den m p h))
 
--- m/d times n/e is whole where e divides m and d divides n * (m/e)
 whole_times : (m d : ℕ) (n : ℤ) (e : ℕ) → 0 < d → 0 < e → e ∣ m → d ∣ (unsigned_abs n * (m / e)) → (ratio (pos m) d *ʳ ratio n e).den ≡ 1
 unfolding whole
 whole_times m d n e p q h k = go n k
@@ -207,7 +206,7 @@ sum_scaled w (t ∷ ts) s h = ap₂ (λ a b. (a *ʳ numbers s t.0) +ʳ b) (whole
 pub value_scaled : (w : Rational) (ts : Terms) (c : Rational) (s : Env) → AreWholeTimes w ts → sum_of (numbers s) (whole_terms w ts) +ʳ (w *ʳ c) ≡ w *ʳ (total ts s +ʳ c)
 value_scaled w ts c s h = ap (λ a. a +ʳ (w *ʳ c)) (sum_scaled w ts s h) ∙ sym (*ʳ-+ʳ w (total ts s) c)
 
--- ---- With a UReal: the whole row is brought to whole numbers
+-- ---- With a UReal: the whole row is scaled to integers
 
 pub product_whole : (n : ℕ) (k : ℤ) → ratio (pos n) 1 *ʳ whole k ≡ whole (pos n *ℤ k)
 unfolding whole
@@ -227,7 +226,7 @@ cleared c = ratio_same c.num 1 (pos c.den *ℤ c.num) (1 * c.den) (lit< tt) (mul
 exact_met : (w c : Rational) (ts : Terms) (s : Env) (strict : Bool) → IsPositive w → AreWholeTimes w ts → is_negative (total ts s +ʳ c) strict ≡ true → IsBelowZero strict (sum_of (numbers s) (whole_terms (ratio (pos (w *ʳ c).den) 1 *ʳ w) ts) +ʳ whole (w *ʳ c).num)
 exact_met w c ts s strict p h e = subst (IsBelowZero strict) (sym (value_scaled (ratio (pos (w *ʳ c).den) 1 *ʳ w) ts c s (further_whole (w *ʳ c).den w ts h)) ∙ ap (λ x. sum_of (numbers s) (whole_terms (ratio (pos (w *ʳ c).den) 1 *ʳ w) ts) +ʳ x) (*ʳ_assoc (ratio (pos (w *ʳ c).den) 1) w c ∙ sym (cleared (w *ʳ c)))) (keeps_sign _ (total ts s +ʳ c) strict (positive-* _ w (positive_ratio (w *ʳ c).den 1 (w *ʳ c).positive (lit< tt)) p) e)
 
--- ---- Over whole variables: the constant is rounded
+-- ---- Over integer variables: the constant is rounded
 
 record WholeSum (s : Env) (ts : List (ℕ × ℤ)) : Type 0 where
   sum : ℤ
@@ -335,7 +334,6 @@ tightened_met : (types : Types) (s : Env) (k : Claim) (r : Row) → HasTypes typ
 unfolding tightened
 tightened_met types s k r t n h e = subst (MeetsAt (numbers s)) (taken_row _ (tight_row types k.left.terms k.left.rest k.strict) r e) (row_met types s k.left.terms k.left.rest k.strict t n h.claimed)
 
--- The rows of claims that hold are met.
 pub rows_met : (types : Types) (s : Env) (ks : List Claim) (rows : List Row) → HasTypes types s → AllNonzero ks → AllClaimed s ks → all_tightened types ks ≡ Some rows → All (MeetsAt (numbers s)) rows
 rows_met types s [] rows t n h e = let k : [] ≡ rows = cc in subst (All (MeetsAt (numbers s))) k (All-nil _)
 rows_met types s (k ∷ ks) rows t n h e = go (tightened types k) refl (all_tightened types ks) refl e (rows_met types s ks)

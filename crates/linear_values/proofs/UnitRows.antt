@@ -1,4 +1,4 @@
--- Rows of one variable, whose coefficient is 1 or -1, over whole numbers.
+-- Rows of one variable, whose coefficient is 1 or -1, with an integer constant.
 use Rattle.std.proofs.Common.{◌≡◌, ℕ, [], ◌∷◌, refl, sym, ap, ap₂, ◌∙◌, subst, arith, lit<, Bool, true, false, cond, ◌&&◌, ◌*◌, ◌/◌, nat_lt, ◌^◌, unsigned_abs, to_z, of_z, FitsSigned}
 use Rattle.std.specs.Prelude.{Some, None, ◌≤ℤ◌}
 use Rattle.std.proofs.Math.IntN.{ℤ, pos, ◌+ℤ◌}
@@ -24,7 +24,7 @@ use Rattle.linear_rows.proofs.exported.Narrow.{seen, product_fits_narrow}
 use Rattle.linear_values.proofs.RowParts.{claim_of, row_choice, row_of, unit_factor, WholeRow, ExactRow}
 use Rattle.linear_values.proofs.TightRows.{whole_den}
 
--- ---- Whole numbers stay when they are rounded
+-- ---- Rounding preserves integers
 
 below_of : (a b : ℤ) → whole a ≤ʳ whole b → a ≤ℤ b
 below_of a b h = rw (whole_num a, whole_den b, whole_num b, whole_den a, *ℤ-one a, *ℤ-one b) at (cross_order (whole a) (whole b) h)
@@ -67,7 +67,7 @@ factor_unit : (x : ℕ) (c : ℤ) → unsigned_abs c ≡ 1 → oneʳ ≡ factor 
 unfolding factor common_multiple common_divisor oneʳ gcd gcd_steps
 factor_unit x c e = sym (ap₂ (λ d n. ratio (pos (d * 1 / gcd d 1)) (gcd (n * (d * 1 / gcd d 1 / d)) 0)) (whole_den c) (ap unsigned_abs (whole_num c) ∙ e))
 
--- What the row is.
+-- The row of `c * x + k`.
 abbrev pub unit : ℕ → ℤ → ℤ → Bool → Row
 unit x c r strict = record { terms = (x, c) ∷ []; rest = r; strict = strict }
 

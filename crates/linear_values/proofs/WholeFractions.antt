@@ -1,4 +1,4 @@
--- Sums and products of whole numbers among the fractions.
+-- Sums and products of integers as fractions.
 use Rattle.std.proofs.Common.{◌≡◌, ◌==◌, ◌<◌, ◌^◌, refl, sym, subst, ap, ap₂, ◌∙◌, arith, Bool, true, false, cond, ◌&&◌, nat_eq, unsigned_abs, to_z, of_z, FitsSigned, ℕ}
 use Rattle.std.specs.Prelude.{Option, Some, None, MatchOption}
 use Rattle.std.proofs.Math.IntN.{ℤ, pos, ◌+ℤ◌, ◌*ℤ◌}
@@ -69,7 +69,7 @@ one_product w c e h = sym (ap (λ w. small_product w c) e ∙ ap (λ x. cond (fi
 pub product_one : (w c : Rational) → c ≡ oneʳ → fits w ≡ true → Some w ≡ small_product w c
 product_one w c e h = sym (ap (λ c. small_product w c) e ∙ ap (λ x. cond (fits x) (Some x) None) (*ʳ-one w) ∙ rw h)
 
--- ---- Both are whole
+-- ---- Both are integers
 
 the_whole : (z : ℤ) → is_small z ≡ true → exact_quotient z (pos 1) ≡ Some (whole z)
 unfolding exact_quotient quotient_fits quotient whole

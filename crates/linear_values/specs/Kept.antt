@@ -1,13 +1,13 @@
--- Linear values as the program keeps them.
+-- The invariant of linear values in the program.
 use Rattle.std.specs.Prelude.{◌≡◌, true, Some, None}
 use Rattle.linear_values.specs.Lin.{Lin, AreNormal, is_sized, Linear}
 
--- A linear value as the program keeps it: terms that grow and hold no zero, and numbers below the bound.
+-- `IsKept a`: the variables of `a` increase, no coefficient is 0, and each number is below 2^62.
 pub record IsKept (a : Lin) : Type 0 where
   pub sized : is_sized a ≡ true
   pub normal : AreNormal a.terms
 
--- A linear value as the program keeps it, or infinity.
+-- `IsKeptValue x`: the value `x` is infinity, or satisfies `IsKept`.
 abbrev pub IsKeptValue : Linear → Type 0
 IsKeptValue (Some a) = IsKept a
 IsKeptValue None = Unit {0}

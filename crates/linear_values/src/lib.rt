@@ -1,4 +1,6 @@
-//! Linear values, and the rows that inequalities with fractions are tightened to.
+//! Linear values, and the integer rows to which inequalities between them are tightened.
+//!
+//! `AllocError` means that memory ran out.
 #![tactic(auto)]
 
 pub mod lin;

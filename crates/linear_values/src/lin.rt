@@ -1,7 +1,10 @@
 //! Linear values.
 
 ghost use Rattle.std.specs.Prelude.{◌≡◌, IfOk, true};
-ghost use Rattle.linear_values.specs.Lin.{all_fit, is_sized as lin_is_sized, constant as constant_lin, variable as variable_lin, plus as lin_plus, minus as lin_minus, scaled as lin_scaled, times as times_terms};
+ghost use Rattle.linear_values.specs.Lin.{all_fit, is_sized as lin_is_sized};
+ghost use Rattle.linear_values.specs.Lin.{constant as constant_lin, variable as variable_lin};
+ghost use Rattle.linear_values.specs.Lin.{plus as lin_plus, minus as lin_minus};
+ghost use Rattle.linear_values.specs.Lin.{scaled as lin_scaled, times as times_terms};
 ghost use Rattle.linear_rows.specs.Numbers.{fits as number_fits};
 ghost use Rattle.linear_values.specs.Operator.{has_no_terms, is_nothing as value_is_nothing};
 ghost use Rattle.linear_values.specs.Kept.{IsKept};
@@ -12,14 +15,15 @@ use crate::numbers::{fits, is_zero, product, signed, sum};
 use heyvl_num::Frac;
 use std::alloc::{AllocError, Global};
 
-/// A linear value: multiples of variables, by growing variable number and without zeros, and a constant.
+/// A linear value: a sum of multiples of variables, and a constant. A term is the number of a
+/// variable and its coefficient; the variables increase, and no coefficient is 0.
 #[derive(Drop)]
 pub struct Lin {
     pub terms: Vec<(u32, Frac)>,
     pub rest: Frac,
 }
 
-/// The linear value without variables that is this number.
+/// Returns the linear value `x`, without variables.
 pub fn constant(alloc: Global, x: Frac) -> Lin
     ensures { lin_of result ≡ constant_lin x }
 {
@@ -29,7 +33,7 @@ pub fn constant(alloc: Global, x: Frac) -> Lin
     }
 }
 
-/// The linear value that is the variable with this number. Want of memory is the one error.
+/// Returns the linear value that is the variable `x`.
 pub fn variable(alloc: Global, x: u32) -> Result<Lin, AllocError>
     ensures { IfOk result (λ a. lin_of a ≡ variable_lin x) }
 {
@@ -41,14 +45,14 @@ pub fn variable(alloc: Global, x: u32) -> Result<Lin, AllocError>
     })
 }
 
-/// Whether a linear value holds no variable.
+/// Returns whether `a` has no variables.
 pub fn is_constant(a: &Lin) -> bool
     ensures { result ≡ has_no_terms (lin_of a.now).terms }
 {
     a.terms.as_slice().split_first().is_none()
 }
 
-/// Whether the value, where None stands for infinity, is the constant 0.
+/// Returns whether `value` is the constant 0. None is infinity.
 pub fn is_nothing(value: &Option<Lin>) -> bool
     ensures { result ≡ value_is_nothing (linear_of value.now) }
 {
@@ -58,7 +62,7 @@ pub fn is_nothing(value: &Option<Lin>) -> bool
     }
 }
 
-/// Whether each coefficient and the constant are below 2^62.
+/// Returns whether the numerators and denominators of all numbers are below 2^62 in absolute value.
 #[tactic(auto, unfolding(crate::specs::Lin::is_sized))]
 pub fn is_sized(a: &Lin) -> bool
     ensures { result ≡ lin_is_sized (lin_of a.now) }
@@ -79,6 +83,7 @@ fn each_fits(terms: &[(u32, Frac)]) -> bool
     true
 }
 
+/// Returns `a + b`.
 #[tactic(auto, unfolding(crate::specs::Lin::plus))]
 pub fn plus(alloc: Global, a: &Lin, b: &Lin) -> Result<Lin, AllocError>
     requires left { IsKept (lin_of a.now) }
@@ -92,6 +97,7 @@ pub fn plus(alloc: Global, a: &Lin, b: &Lin) -> Result<Lin, AllocError>
     })
 }
 
+/// Returns `w * a`.
 #[tactic(auto, unfolding(crate::specs::Lin::scaled))]
 pub fn scaled(alloc: Global, w: &Frac, a: &Lin) -> Result<Lin, AllocError>
     requires factor { number_fits w.now ≡ true }
@@ -123,7 +129,7 @@ fn times(alloc: Global, w: &Frac, terms: &[(u32, Frac)]) -> Result<Vec<(u32, Fra
     Ok(made)
 }
 
-/// The first linear value less the second. Want of memory is the one error.
+/// Returns `a - b`.
 pub fn minus(alloc: Global, a: &Lin, b: &Lin) -> Result<Lin, AllocError>
     requires left { IsKept (lin_of a.now) }
     requires right { IsKept (lin_of b.now) }
@@ -136,7 +142,7 @@ pub fn minus(alloc: Global, a: &Lin, b: &Lin) -> Result<Lin, AllocError>
     })
 }
 
-/// The same value again.
+/// Returns a copy of `a`.
 pub fn copy(alloc: Global, a: &Lin) -> Result<Lin, AllocError>
     ensures { IfOk result (λ c. lin_of c ≡ lin_of a.now) }
 {
@@ -146,7 +152,7 @@ pub fn copy(alloc: Global, a: &Lin) -> Result<Lin, AllocError>
     })
 }
 
-/// The same value again, where None stands for infinity.
+/// Returns a copy of `a`. None is infinity.
 pub fn copy_value(alloc: Global, a: &Option<Lin>) -> Result<Option<Lin>, AllocError>
     ensures { IfOk result (λ c. linear_of c ≡ linear_of a.now) }
 {

@@ -1,4 +1,4 @@
-//! Terms of linear values, by growing variable number.
+//! Terms of linear values, in increasing order of the variables.
 
 ghost use Rattle.std.specs.Prelude.{◌≡◌, ◌++◌, [], IfOk, true};
 ghost use Rattle.linear_values.specs.Lin.{all_fit, unless_zero, merged as merged_terms, AreNormal};
@@ -8,7 +8,7 @@ use crate::numbers::{is_zero, signed, sum};
 use heyvl_num::Frac;
 use std::alloc::{AllocError, Global};
 
-/// The sum of two lists of terms or, downward, the second without the first.
+/// Returns `into + from` or, if `downward`, `into - from`.
 pub(crate) fn merged(
     alloc: Global,
     from: &[(u32, Frac)],
@@ -50,7 +50,7 @@ pub(crate) fn merged(
     Ok(made)
 }
 
-/// Appends a term, unless it is zero.
+/// Appends the term `c * x`, unless `c` is 0.
 fn push_term(made: &mut Vec<(u32, Frac)>, x: u32, c: Frac) -> Result<(), AllocError>
     ensures { IfOk result (λ _. made.new.items ≡ made.old.items ++ unless_zero x c []) }
 {

@@ -1,9 +1,10 @@
-//! Multiples of linear values by any fraction, where they are below 2^62.
+//! Multiples of linear values by fractions.
 
 ghost use Rattle.std.specs.Prelude.{◌≡◌, IfOk, MatchOption, true, false};
 ghost use Rattle.heyvl_num.specs.Exact.{exact_product};
 ghost use Rattle.linear_values.specs.Kept.{IsKept};
-ghost use Rattle.linear_values.specs.Lin.{all_fit, is_sized as lin_is_sized, scaled as lin_scaled, times as times_terms};
+ghost use Rattle.linear_values.specs.Lin.{all_fit, is_sized as lin_is_sized, scaled as lin_scaled};
+ghost use Rattle.linear_values.specs.Lin.{times as times_terms};
 ghost use Rattle.linear_rows.specs.Numbers.{fits as number_fits};
 ghost use Rattle.linear_values.specs.Operator.{small_product as product_of};
 ghost use Rattle.linear_values.specs.PlainValues.{lin_of};
@@ -13,7 +14,7 @@ use crate::numbers::{fits, fitting, is_one, is_zero, product};
 use heyvl_num::Frac;
 use std::alloc::{AllocError, Global};
 
-/// The product with a fraction below 2^62, where it is below 2^62 too.
+/// Returns `w * c`, if its numerator and denominator are below 2^62; those of `c` are.
 pub fn small_product(w: &Frac, c: &Frac) -> Option<Frac>
     requires { number_fits c.now ≡ true }
     ensures { result ≡ product_of w.now c.now }
@@ -31,8 +32,8 @@ pub fn small_product(w: &Frac, c: &Frac) -> Option<Frac>
     }
 }
 
-/// The same for any fraction: it is reduced crosswise before it is made, so that no product on the way is too large for what it
-/// stands for.
+/// Returns the same as `small_product` for any `w`. The factors are reduced crosswise first, so
+/// that no intermediate product overflows unless the result does.
 fn crosswise_product(w: &Frac, c: &Frac) -> Option<Frac>
     requires { number_fits c.now ≡ true }
     ensures { result ≡ product_of w.now c.now }
@@ -46,7 +47,7 @@ fn crosswise_product(w: &Frac, c: &Frac) -> Option<Frac>
     if fits(&product) { Some(product) } else { None }
 }
 
-/// The product with a fraction below 2^62, or None where a whole number that it is computed from is too large.
+/// Returns `w * c`, or None if an intermediate integer overflows.
 pub(crate) fn exact_multiple(w: &Frac, c: &Frac) -> Option<Frac>
     requires { number_fits c.now ≡ true }
     ensures { result ≡ exact_product w.now c.now }
@@ -58,14 +59,17 @@ pub(crate) fn exact_multiple(w: &Frac, c: &Frac) -> Option<Frac>
     }
 }
 
-/// Each term times a number, where all coefficients are below 2^62.
+/// Returns `terms` with each coefficient multiplied by `w`, if all products are below 2^62.
 fn small_terms(
     alloc: Global,
     w: &Frac,
     terms: &[(u32, Frac)],
 ) -> Result<Option<Vec<(u32, Frac)>>, AllocError>
     requires { all_fit terms.now ≡ true }
-    ensures { IfOk result (λ o. MatchOption o (all_fit (times_terms w.now terms.now) ≡ false) (λ v. (v.items ≡ times_terms w.now terms.now) × (all_fit (times_terms w.now terms.now) ≡ true))) }
+    ensures { IfOk result (λ o.
+        MatchOption o (all_fit (times_terms w.now terms.now) ≡ false)
+        (λ v. (v.items ≡ times_terms w.now terms.now)
+        × (all_fit (times_terms w.now terms.now) ≡ true))) }
 {
     let mut made = Vec::with_capacity(alloc, terms.len())?;
     let mut rest = terms;
@@ -79,10 +83,13 @@ fn small_terms(
     Ok(Some(made))
 }
 
-/// The multiple of a linear value, where all of its numbers are below 2^62.
+/// Returns `w * a`, or None if a numerator or denominator of it reaches 2^62.
 pub fn small_multiple(alloc: Global, w: &Frac, a: &Lin) -> Result<Option<Lin>, AllocError>
     requires { IsKept (lin_of a.now) }
-    ensures { IfOk result (λ o. MatchOption o (lin_is_sized (lin_scaled w.now (lin_of a.now)) ≡ false) (λ b. (lin_of b ≡ lin_scaled w.now (lin_of a.now)) × (lin_is_sized (lin_scaled w.now (lin_of a.now)) ≡ true))) }
+    ensures { IfOk result (λ o.
+        MatchOption o (lin_is_sized (lin_scaled w.now (lin_of a.now)) ≡ false)
+        (λ b. (lin_of b ≡ lin_scaled w.now (lin_of a.now))
+        × (lin_is_sized (lin_scaled w.now (lin_of a.now)) ≡ true))) }
 {
     if is_zero(w) {
         return Ok(Some(constant(alloc, Frac::zero())));

@@ -4,30 +4,31 @@ ghost use Rattle.std.specs.Prelude.{◌≡◌, ◌==◌, ◌&&◌, MatchOption, 
 ghost use Rattle.heyvl_num.specs.Rational.{oneʳ, ◌+ʳ◌, ◌*ʳ◌};
 ghost use Rattle.heyvl_num.specs.Value.{is_zeroʳ};
 ghost use Rattle.linear_rows.specs.Terms.{is_narrow};
-ghost use Rattle.linear_rows.specs.Numbers.{minus_oneʳ, fits as number_fits, is_negative as number_is_negative};
+ghost use Rattle.linear_rows.specs.Numbers.{minus_oneʳ, fits as number_fits};
+ghost use Rattle.linear_rows.specs.Numbers.{is_negative as number_is_negative};
 ghost use Rattle.heyvl_num.specs.Rounding.{whole as whole_fraction};
 ghost use Rattle.linear_values.specs.Operator.{signed_number, narrow_value};
 
 use heyvl_num::Frac;
 
-/// 2^62, which the numbers of linear values and rows stay below.
+/// The limit 2^62 of the numbers of linear values and rows.
 const BOUND: u128 = 4_611_686_018_427_387_904;
 
-/// The whole number as a fraction.
+/// Returns the integer `n` as a fraction.
 pub fn whole(n: i64) -> Frac
     ensures { result ≡ whole_fraction n }
 {
     Frac::new(i128::from(n), 1).unwrap()
 }
 
-/// The number -1.
+/// Returns the fraction -1.
 pub fn minus_one() -> Frac
     ensures { result ≡ minus_oneʳ }
 {
     Frac::new(-1, 1).unwrap()
 }
 
-/// Whether the numerator and the denominator are below 2^62 in absolute value.
+/// Returns whether the numerator and the denominator are below 2^62 in absolute value.
 #[tactic(auto, unfolding(linear_rows::specs::Numbers::fits))]
 pub fn fits(x: &Frac) -> bool
     ensures { result ≡ number_fits x.now }
@@ -35,14 +36,13 @@ pub fn fits(x: &Frac) -> bool
     is_below(x.num()) && is_below(x.den())
 }
 
-/// Whether the number is below 2^62 in absolute value.
 fn is_below(n: i128) -> bool
     ensures { result ≡ is_narrow n }
 {
     n.unsigned_abs() < BOUND
 }
 
-/// The whole number, or None where it reaches 2^62 in absolute value.
+/// Returns `z`, or None if its absolute value is 2^62 or more.
 pub fn narrow(z: i128) -> Option<i64>
     ensures { result ≡ narrow_value z }
 {
@@ -53,28 +53,28 @@ pub fn narrow(z: i128) -> Option<i64>
     }
 }
 
-/// Whether the number is 0.
+/// Returns whether `x` is 0.
 pub fn is_zero(x: &Frac) -> bool
     ensures { result ≡ is_zeroʳ x.now }
 {
     x.num() == 0
 }
 
-/// Whether the number is at most 0 or, where strict, below 0.
+/// Returns whether `x` is at most 0 or, if `strict`, below 0.
 pub fn is_negative(x: &Frac, strict: bool) -> bool
     ensures { result ≡ number_is_negative x.now strict }
 {
     if strict { x.num() < 0 } else { x.num() <= 0 }
 }
 
-/// The number, where it is below 2^62.
+/// Returns `x` if its numerator and denominator are below 2^62 in absolute value, otherwise None.
 pub fn fitting(x: Frac) -> Option<Frac>
     ensures { result ≡ (if number_fits x then Some x else None) }
 {
     if fits(&x) { Some(x) } else { None }
 }
 
-/// Whether the number is 1.
+/// Returns true only if `x` is 1.
 pub(crate) fn is_one(x: &Frac) -> bool
     ensures { result ≡ true → x.now ≡ oneʳ }
 {
@@ -87,9 +87,10 @@ fn is_whole(x: &Frac) -> bool
     x.den() == 1
 }
 
-/// The number as a whole number, where it is one below 2^62.
+/// Returns `x` as an integer, if it is one below 2^62 in absolute value.
 pub fn as_whole(x: &Frac) -> Option<i64>
-    ensures { MatchOption result (Unit {0}) (λ n. (x.now ≡ whole_fraction n) × (is_narrow n ≡ true)) }
+    ensures { MatchOption result (Unit {0}) (λ n. (x.now ≡ whole_fraction n)
+        × (is_narrow n ≡ true)) }
 {
     if is_whole(x) { narrow(x.num()) } else { None }
 }
@@ -100,7 +101,7 @@ fn are_whole(x: &Frac, y: &Frac) -> bool
     is_whole(x) && is_whole(y)
 }
 
-/// The number or, downward, its negative.
+/// Returns `x` or, if `downward`, `-x`.
 pub fn signed(x: &Frac, downward: bool) -> Frac
     requires { number_fits x.now ≡ true }
     ensures { result ≡ signed_number downward x.now }
@@ -112,7 +113,7 @@ pub fn signed(x: &Frac, downward: bool) -> Frac
     }
 }
 
-/// The sum, which is cheap where one of the two is 0 or both are whole.
+/// Returns `x + y`, at low cost if one of them is 0 or both are integers.
 pub fn sum(x: &Frac, y: &Frac) -> Frac
     requires left { number_fits x.now ≡ true }
     requires right { number_fits y.now ≡ true }
@@ -146,7 +147,7 @@ fn any_sum(x: &Frac, y: &Frac) -> Frac
     x.add(y).unwrap()
 }
 
-/// The product, which is cheap where the second is 0 or both are whole.
+/// Returns `x * y`, at low cost if `y` is 0 or both are integers.
 pub(crate) fn product(x: &Frac, y: &Frac) -> Frac
     requires left { number_fits x.now ≡ true }
     requires right { number_fits y.now ≡ true }

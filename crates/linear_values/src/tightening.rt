@@ -1,6 +1,7 @@
-//! Rows of inequalities with fractions.
+//! The integer rows of inequalities with fractions.
 
-ghost use Rattle.std.specs.Prelude.{◌≡◌, [], ◌∷◌, ◌<◌, ◌^◌, ◌<ℤ◌, pos, length, unsigned_abs, IfOk, MatchOption, Some, None, if◌then◌else◌, true, false};
+ghost use Rattle.std.specs.Prelude.{◌≡◌, [], ◌∷◌, ◌<◌, ◌^◌, ◌<ℤ◌, pos, length, unsigned_abs, IfOk};
+ghost use Rattle.std.specs.Prelude.{MatchOption, Some, None, if◌then◌else◌, true, false};
 ghost use Rattle.heyvl_num.specs.Rational.{Rational, ratio, ◌*ʳ◌};
 ghost use Rattle.heyvl_num.specs.Rounding.{whole};
 ghost use Rattle.heyvl_num.specs.Value.{is_zeroʳ};
@@ -8,7 +9,10 @@ ghost use Rattle.linear_rows.specs.Terms.{is_narrow};
 ghost use Rattle.linear_values.specs.Lin.{AreNormal, all_fit, is_sized as lin_is_sized};
 ghost use Rattle.linear_rows.specs.Numbers.{fits as number_fits};
 ghost use Rattle.linear_rows.specs.TermResults.{are_narrow};
-ghost use Rattle.linear_values.specs.Tightening.{factor, whole_terms, sign_of, rounded as rounded_constant, are_whole as variables_are_whole, tightened as row_tightened};
+ghost use Rattle.linear_values.specs.Tightening.{factor, whole_terms, sign_of};
+ghost use Rattle.linear_values.specs.Tightening.{rounded as rounded_constant};
+ghost use Rattle.linear_values.specs.Tightening.{are_whole as variables_are_whole};
+ghost use Rattle.linear_values.specs.Tightening.{tightened as row_tightened};
 ghost use Rattle.linear_rows.specs.VariableTypes.{is_integral};
 ghost use Rattle.linear_values.specs.WholeTimes.{AreWholeTimes};
 ghost use Rattle.heylo_formula.specs.Typing.{types_in};
@@ -23,7 +27,7 @@ use heyvl_num::Frac;
 use linear_rows::Row;
 use std::alloc::{AllocError, Global};
 
-/// A whole number over a fraction that isn't 0, which is cheap where the number is the fraction's numerator.
+/// Returns `k / x`, at low cost if `k` is the numerator of `x`.
 fn quotient(k: i128, x: &Frac) -> Frac
     requires narrow { unsigned_abs k < 2 ^ 62 }
     requires sized { number_fits x.now ≡ true }
@@ -53,21 +57,22 @@ fn any_quotient(k: i128, x: &Frac) -> Frac
     Frac::new(k * x.den(), x.num()).unwrap()
 }
 
-/// The sign: -1, 0 or 1.
+/// Returns the sign of `x`: -1, 0 or 1.
 fn sign(x: &Frac) -> i128
     ensures { result ≡ sign_of x.now.num }
 {
     x.num().signum()
 }
 
-/// What makes the coefficients whole numbers without a common divisor, or None, only where one of these whole numbers reaches
-/// 2^62. There is a term.
+/// Returns the factor that makes the coefficients integers without a common divisor. There has to
+/// be a term. Returns None only if one of these integers reaches 2^62.
 #[cycle(factors)]
 fn factor_of(terms: &[(u32, Frac)]) -> Option<Frac>
     requires some { 0 < length terms.now }
     requires normal { AreNormal terms.now }
     requires sized { all_fit terms.now ≡ true }
-    ensures { MatchOption result (are_narrow (whole_terms (factor terms.now) terms.now) ≡ false) (λ w. w ≡ factor terms.now) }
+    ensures { MatchOption result (are_narrow (whole_terms (factor terms.now) terms.now) ≡ false)
+        (λ w. w ≡ factor terms.now) }
 {
     match terms.split_first() {
         None => None,
@@ -86,7 +91,7 @@ fn factor_of(terms: &[(u32, Frac)]) -> Option<Frac>
     }
 }
 
-/// A coefficient of a row: the scale times what the factor makes of a coefficient, or None where it reaches 2^62.
+/// Returns the coefficient `scale * factor * x` of a row, or None if it reaches 2^62.
 fn coefficient(factor: &Frac, scale: i128, x: &Frac) -> Option<i64>
     requires positive { pos 0 <ℤ scale }
     requires sized { number_fits x.now ≡ true }
@@ -102,7 +107,7 @@ fn coefficient(factor: &Frac, scale: i128, x: &Frac) -> Option<i64>
     }
 }
 
-/// The terms of a row, or None where a coefficient reaches 2^62.
+/// Returns the terms of a row, or None if a coefficient reaches 2^62.
 fn coefficients(
     alloc: Global,
     factor: &Frac,
@@ -112,7 +117,10 @@ fn coefficients(
     requires positive { pos 0 <ℤ scale }
     requires sized { all_fit terms.now ≡ true }
     requires whole { AreWholeTimes factor.now terms.now }
-    ensures { IfOk result (λ o. MatchOption o (are_narrow (whole_terms (ratio scale 1 *ʳ factor.now) terms.now) ≡ false) (λ v. (v.items ≡ whole_terms (ratio scale 1 *ʳ factor.now) terms.now) × (are_narrow (whole_terms (ratio scale 1 *ʳ factor.now) terms.now) ≡ true))) }
+    ensures { IfOk result (λ o.
+        MatchOption o (are_narrow (whole_terms (ratio scale 1 *ʳ factor.now) terms.now) ≡ false)
+        (λ v. (v.items ≡ whole_terms (ratio scale 1 *ʳ factor.now) terms.now)
+        × (are_narrow (whole_terms (ratio scale 1 *ʳ factor.now) terms.now) ≡ true))) }
 {
     let mut made = Vec::with_capacity(alloc, terms.len())?;
     let mut rest = terms;
@@ -126,7 +134,7 @@ fn coefficients(
     Ok(Some(made))
 }
 
-/// Whether the variable is of type Int or UInt.
+/// Returns whether `x` is of type `Int` or `UInt`.
 fn is_whole(types: &[Ty], x: u32) -> bool
     ensures { result ≡ is_integral (types_in types.now x) }
 {
@@ -139,7 +147,7 @@ fn is_whole(types: &[Ty], x: u32) -> bool
     }
 }
 
-/// Whether all variables are of type Int or UInt.
+/// Returns whether all variables are of type `Int` or `UInt`.
 fn are_whole(types: &[Ty], terms: &[(u32, Frac)]) -> bool
     ensures { result ≡ variables_are_whole (types_in types.now) terms.now }
 {
@@ -153,7 +161,8 @@ fn are_whole(types: &[Ty], terms: &[(u32, Frac)]) -> bool
     true
 }
 
-/// The constant, rounded up or, in a strict row, to the next whole number above; None where that reaches 2^62.
+/// Returns the constant rounded up or, if `strict`, the next larger integer; None if it reaches
+/// 2^62.
 fn rounded(constant: &Frac, strict: bool) -> Option<i64>
     ensures { result ≡ narrow_value (rounded_constant strict constant.now) }
 {
@@ -167,7 +176,7 @@ fn rounded(constant: &Frac, strict: bool) -> Option<i64>
     }
 }
 
-/// The row with these coefficients, or None where one of them reaches 2^62.
+/// Returns the row with these coefficients, or None if one of them reaches 2^62.
 fn row(
     alloc: Global,
     factor: &Frac,
@@ -179,7 +188,13 @@ fn row(
     requires positive { pos 0 <ℤ scale }
     requires sized { all_fit terms.now ≡ true }
     requires whole { AreWholeTimes factor.now terms.now }
-    ensures { IfOk result (λ o. o ≡ (if are_narrow (whole_terms (ratio scale 1 *ʳ factor.now) terms.now) then Some (record { terms = whole_terms (ratio scale 1 *ʳ factor.now) terms.now; rest = rest; strict = strict }) else None)) }
+    ensures { IfOk result (λ o.
+        o ≡ (if are_narrow (whole_terms (ratio scale 1 *ʳ factor.now) terms.now)
+        then Some (record {
+          terms = whole_terms (ratio scale 1 *ʳ factor.now) terms.now;
+          rest = rest;
+          strict = strict;
+        }) else None)) }
 {
     match coefficients(alloc, factor, scale, terms)? {
         None => Ok(None),
@@ -191,7 +206,7 @@ fn row(
     }
 }
 
-/// The row of an inequality with a variable, or None where one of its numbers is too large.
+/// Returns the row of an inequality with a variable, or None if a number of it overflows.
 fn terms_tightened(
     alloc: Global,
     types: &[Ty],
@@ -202,7 +217,9 @@ fn terms_tightened(
     requires some { 0 < length terms.now }
     requires normal { AreNormal terms.now }
     requires sized { lin_is_sized (record { terms = terms.now; rest = constant.now }) ≡ true }
-    ensures { IfOk result (λ o. o ≡ row_tightened (types_in types.now) (record { left = record { terms = terms.now; rest = constant.now }; strict = strict })) }
+    ensures { IfOk result (λ o.
+        o ≡ row_tightened (types_in types.now)
+        (record { left = record { terms = terms.now; rest = constant.now }; strict = strict })) }
 {
     match factor_of(terms) {
         None => Ok(None),
@@ -225,9 +242,12 @@ fn terms_tightened(
     }
 }
 
-/// The row of an inequality: the linear value is at most 0 or, where strict, below 0. None exactly where a number is too large:
-/// one of the value reaches 2^62, the constant's multiple 2^127, or a number of the row 2^62. The terms of the value grow by
-/// variable and hold no zero; a variable without a type counts as Boolean.
+/// Returns the row of the inequality `left <= 0` or, if `strict`, `left < 0`, tightened to
+/// integers.
+///
+/// The variables of `left` have to increase, and no coefficient may be 0. A variable without a type
+/// counts as Boolean. Returns None exactly on overflow: a number of `left` reaches 2^62, the
+/// product of the constant and its factor reaches 2^127, or a number of the row reaches 2^62.
 pub fn tightened(
     alloc: Global,
     types: &[Ty],
@@ -235,7 +255,9 @@ pub fn tightened(
     strict: bool,
 ) -> Result<Option<Row>, AllocError>
     requires { AreNormal (lin_of left.now).terms }
-    ensures { IfOk result (λ o. o ≡ row_tightened (types_in types.now) (record { left = lin_of left.now; strict = strict })) }
+    ensures { IfOk result (λ o.
+        o ≡ row_tightened (types_in types.now)
+        (record { left = lin_of left.now; strict = strict })) }
 {
     if !is_sized(left) {
         return Ok(None);
@@ -259,9 +281,10 @@ pub fn tightened(
     }
 }
 
-/// The one term, where there is no other and its coefficient is 1 or -1.
+/// Returns the only term, if its coefficient is 1 or -1.
 fn unit_term(terms: &[(u32, Frac)]) -> Option<(u32, i64)>
-    ensures { MatchOption result (Unit {0}) (λ t. (terms.now ≡ (t.0, whole t.1) ∷ []) × (unsigned_abs t.1 ≡ 1)) }
+    ensures { MatchOption result (Unit {0}) (λ t. (terms.now ≡ (t.0, whole t.1) ∷ [])
+        × (unsigned_abs t.1 ≡ 1)) }
 {
     match terms.split_first() {
         None => None,
@@ -275,9 +298,10 @@ fn unit_term(terms: &[(u32, Frac)]) -> Option<(u32, i64)>
     }
 }
 
-/// The term, where its coefficient is 1 or -1.
+/// Returns the term, if its coefficient is 1 or -1.
 fn unit_of(term: &(u32, Frac)) -> Option<(u32, i64)>
-    ensures { MatchOption result (Unit {0}) (λ t. (term.now ≡ (t.0, whole t.1)) × (unsigned_abs t.1 ≡ 1)) }
+    ensures { MatchOption result (Unit {0}) (λ t. (term.now ≡ (t.0, whole t.1))
+        × (unsigned_abs t.1 ≡ 1)) }
 {
     match as_whole(&term.1) {
         None => None,
@@ -291,7 +315,7 @@ fn unit_of(term: &(u32, Frac)) -> Option<(u32, i64)>
     }
 }
 
-/// The row of a variable, once or negated, and a whole number, or None where the number is too large once it is rounded.
+/// Returns the row of `c * x + k`, where `c` is 1 or -1, or None if the rounded constant overflows.
 fn unit_tightened(
     alloc: Global,
     types: &[Ty],
@@ -302,7 +326,9 @@ fn unit_tightened(
 ) -> Result<Option<Row>, AllocError>
     requires unit { unsigned_abs c ≡ 1 }
     requires small { is_narrow k ≡ true }
-    ensures { IfOk result (λ o. o ≡ row_tightened (types_in types.now) (record { left = record { terms = (x, whole c) ∷ []; rest = whole k }; strict = strict })) }
+    ensures { IfOk result (λ o.
+        o ≡ row_tightened (types_in types.now)
+        (record { left = record { terms = (x, whole c) ∷ []; rest = whole k }; strict = strict })) }
 {
     if is_whole(types, x) {
         match raised(k, strict) {
@@ -314,7 +340,7 @@ fn unit_tightened(
     }
 }
 
-/// The whole number or, in a strict row, the next one above; None where that reaches 2^62.
+/// Returns `k` or, if `strict`, `k + 1`; None if it reaches 2^62.
 fn raised(k: i64, strict: bool) -> Option<i64>
     ensures { result ≡ narrow_value (rounded_constant strict (whole k)) }
 {
@@ -325,7 +351,7 @@ fn raised(k: i64, strict: bool) -> Option<i64>
     }
 }
 
-/// The row of one term.
+/// Returns the row with the term `c * x`.
 fn unit_row(alloc: Global, x: u32, c: i64, rest: i64, strict: bool) -> Result<Row, AllocError>
     ensures { IfOk result (λ r. r ≡ record { terms = (x, c) ∷ []; rest = rest; strict = strict }) }
 {

@@ -1,2 +1,2 @@
--- Meant for the proofs of other crates. The parts of linear values.
+-- For the proofs of other crates: the parts of linear values.
 pub use Rattle.linear_values.proofs.KeptParts.{terms_fit, rest_fits}

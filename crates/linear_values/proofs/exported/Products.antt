@@ -1,2 +1,3 @@
--- Meant for the proofs of other crates. The product of two fractions in lowest terms, reduced crosswise before it is made.
+-- For the proofs of other crates: the product of two fractions in lowest terms, whose factors are
+-- reduced crosswise first.
 pub use Rattle.linear_values.proofs.Products.{product_some}

@@ -1,2 +1,2 @@
--- Meant for the proofs of other crates. The row of an inequality, from its parts.
+-- For the proofs of other crates: the row of an inequality, from its parts.
 pub use Rattle.linear_values.proofs.RowParts.{too_large, ok_then}
