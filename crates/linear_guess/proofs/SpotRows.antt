@@ -1,4 +1,4 @@
--- Points that are given by a list of numbers over one denominator, and the rows that they meet.
+-- Points as a list of numerators over one denominator, and the rows that they satisfy.
 use Rattle.std.proofs.Common.{◌≡◌, ℕ, ◌<◌, ◌≤◌, ◌+◌, List, [], ◌∷◌, length, take, drop, get_or, refl, ap, ◌∙◌, sym, subst, arith}
 use Rattle.std.specs.Prelude.{ℤ, pos, ◌+ℤ◌, ◌*ℤ◌}
 use borrow.Author.Differences.{ints}
@@ -22,12 +22,10 @@ met_somewhere below tops rows p h =
     let w : Point = record { below = below; positive = p; top = top_at tops } in
     record { at_point = w; meets = to_points below tops rows w refl refl h }
 
--- Any point meets no rows.
 pub none_met : (below : ℕ) (tops : List ℤ) (rows : List Row) → AreMetBy below tops (take 0 rows)
 none_met below tops [] = All-nil (IsMetBy below tops)
 none_met below tops (r ∷ rows) = All-nil (IsMetBy below tops)
 
--- One row more.
 pub met_more : (below : ℕ) (tops : List ℤ) (rows : List Row) (i : ℕ) (r : Row) (ts : List ℤ) → i < length rows → r ≡ get_or rows i r → ts ≡ tops → AreMetBy below tops (take i rows) → IsMetBy below ts r → AreMetBy below tops (take (i + 1) rows)
 met_more below tops rows i r ts p e f h m = subst (AreMetBy below tops) (sym (take_more rows i r p)) (All-append (IsMetBy below tops) (take i rows) (get_or rows i r ∷ []) h (All-cons (IsMetBy below tops) (get_or rows i r) [] (subst (IsMetBy below tops) e (subst (λ t. IsMetBy below t r) f m)) (All-nil (IsMetBy below tops))))
 
@@ -48,12 +46,10 @@ none_left z w s e f = omega (arith, ints, e, f)
 pub terms_start : (f : ℕ → ℤ) (ts : List (ℕ × ℤ)) → pos 0 +ℤ sum_at f (drop 0 ts) ≡ sum_at f ts
 terms_start f ts = none_before (sum_at f ts)
 
--- One term more.
 pub terms_next : (f : ℕ → ℤ) (ts : List (ℕ × ℤ)) (i : ℕ) (d : ℕ × ℤ) (c z y : ℤ) → i < length ts → z +ℤ sum_at f (drop i ts) ≡ sum_at f ts → c ≡ (get_or ts i d).1 → y ≡ (c *ℤ f (get_or ts i d).0) +ℤ z → y +ℤ sum_at f (drop (i + 1) ts) ≡ sum_at f ts
 terms_next f ts i d c z y l h a e =
     let k : drop i ts ≡ get_or ts i d ∷ drop (i + 1) ts = drop-cons ts i d l ∙ ap (λ n. get_or ts i d ∷ drop n ts) (next_place i) in
     one_more z y _ (sum_at f (drop (i + 1) ts)) (sum_at f ts) (sym (ap (λ w. z +ℤ w) (ap (sum_at f) k ∙ sum_at-cons f (get_or ts i d) (drop (i + 1) ts))) ∙ h) (e ∙ ap (λ k. (k *ℤ f (get_or ts i d).0) +ℤ z) a)
 
--- No term is left.
 pub terms_end : (f : ℕ → ℤ) (ts : List (ℕ × ℤ)) (i : ℕ) (z : ℤ) → length ts ≤ i → z +ℤ sum_at f (drop i ts) ≡ sum_at f ts → z ≡ sum_at f ts
 terms_end f ts i z l h = none_left z (sum_at f (drop i ts)) (sum_at f ts) (ap (sum_at f) (drop_of_length-le ts l) ∙ sum_at-nil f) h

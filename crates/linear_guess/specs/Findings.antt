@@ -1,4 +1,4 @@
--- What a quick answer says of the rows.
+-- The results of a search.
 use Rattle.std.specs.Prelude.{List}
 use Rattle.linear_rows.specs.Row.{Row}
 use Rattle.linear_rows.specs.Solutions.{IsSolvable}
@@ -6,7 +6,8 @@ use Rattle.linear_rows.specs.Combination.{IsContradiction}
 use Rattle.linear_guess.specs.declared.findings.Finding.{Finding}
 use Rattle.linear_guess.specs.declared.findings.Finding.TheVariants.{Refuted, Met, Open}
 
--- Multipliers combine the rows to a contradiction, and a point comes only where some fractions meet the rows.
+-- `IsFinding rows f`: multipliers combine the rows to a contradiction, and `Met` says that they
+-- have a solution.
 abbrev pub IsFinding : List Row → Finding → Type 0
 IsFinding rows (Refuted ms) = IsContradiction ms.items rows
 IsFinding rows Met = IsSolvable rows

@@ -1,22 +1,22 @@
-//! Quick answers for rows: that a point meets them, or multipliers that show that none does. Each is tested before it is given.
+//! The results of a search, which are tested.
 ghost use Rattle.std.specs.List.{All};
 ghost use Rattle.linear_rows.specs.Row.{IsRow};
 ghost use Rattle.linear_guess.specs.Findings.{IsFinding};
 
 use linear_rows::{Row, contradicts};
 
-/// What is found of rows.
+/// The result of a search.
 #[derive(Drop)]
 pub enum Finding {
-    /// No fractions meet the rows: multipliers by row index, which combine them to a contradiction.
+    /// The rows have no solution: multipliers, by row index, combine them to a contradiction.
     Refuted(Vec<(u32, u64)>),
-    /// A point meets the rows.
+    /// The rows have a solution.
     Met,
     /// Nothing was found.
     Open,
 }
 
-/// What multipliers come to once they are tested.
+/// Tests proposed multipliers.
 pub(crate) fn refuted_by(rows: &[Row], multipliers: Vec<(u32, u64)>) -> Finding
     requires { All IsRow rows.now }
     ensures { IsFinding rows.now result }

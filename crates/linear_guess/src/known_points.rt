@@ -1,4 +1,4 @@
-//! Points that are known to meet the first rows of a path.
+//! Points that satisfy the first rows of a path.
 ghost use Rattle.std.specs.Prelude.{◌≡◌, List, take, min};
 ghost use Rattle.std.specs.List.{All};
 ghost use Rattle.linear_rows.specs.Row.{Row as PlainRow};
@@ -6,14 +6,14 @@ ghost use Rattle.linear_guess.specs.Searches.{IsKnown};
 
 use crate::spots::Spot;
 
-/// A point, and how many of the first rows of a path it is known to meet.
+/// A point, and how many of the first rows of a path it is known to satisfy.
 #[derive(Drop)]
 pub struct KnownPoint {
     pub spot: Spot,
     pub met: usize,
 }
 
-/// The lesser of two numbers.
+/// Returns the smaller of two numbers.
 pub(crate) fn least(a: usize, b: usize) -> usize
     ensures { result ≡ min a b }
 {
@@ -21,17 +21,19 @@ pub(crate) fn least(a: usize, b: usize) -> usize
 }
 
 impl KnownPoint {
-    /// Forgets that the point meets rows from a place on.
+    /// Removes what is known of the rows from index `len` on.
     pub(crate) fn truncate(&mut self, len: usize)
-        ensures { (before after : List PlainRow) → IsKnown before self.old → take len before ≡ take len after → IsKnown after self.new }
+        ensures { (before after : List PlainRow) → IsKnown before self.old
+            → take len before ≡ take len after → IsKnown after self.new }
     {
         self.met = least(self.met, len);
     }
 }
 
-/// Forgets that the points meet rows from a place on.
+/// Removes what is known of the rows from index `len` on, for each point.
 pub(crate) fn truncate_each(points: &mut [KnownPoint], len: usize)
-    ensures { (before after : List PlainRow) → All (IsKnown before) points.old → take len before ≡ take len after → All (IsKnown after) points.new }
+    ensures { (before after : List PlainRow) → All (IsKnown before) points.old
+        → take len before ≡ take len after → All (IsKnown after) points.new }
 {
     for i in 0..points.len() {
         points[i].truncate(len);

@@ -1,4 +1,7 @@
-//! Quick answers for rows, each tested before it is given.
+//! Proposals for rows: a point that satisfies them, or multipliers that combine them to a
+//! contradiction. Each proposal is tested before it is returned.
+//!
+//! `AllocError` means that memory ran out.
 #![tactic(auto)]
 
 mod findings;

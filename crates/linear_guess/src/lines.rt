@@ -1,10 +1,10 @@
-//! Lines of a tableau, and the arithmetic by which a simplex changes them. Nothing rests on it.
+//! The lines of a simplex tableau, and the arithmetic of pivots. Untrusted: proposals are tested.
 use heyvl_num::gcd;
 use std::alloc::AllocError;
 
-/// A value that depends on the columns of a tableau: what they stand for, each as often as its number says and 0 times beyond the list,
-/// a constant, and a small positive number so many times, over a denominator above 0; and whether it has changed since its value was
-/// found.
+/// A variable as a combination of the columns of a tableau: the sum of each column times its number
+/// (0 beyond the list), of `constant`, and of `small` times a small positive number, divided by
+/// `over`, which is above 0. `changed` says that the line has changed since its value was computed.
 #[derive(Drop)]
 pub(crate) struct Line {
     pub(crate) numbers: Vec<i64>,
@@ -14,7 +14,8 @@ pub(crate) struct Line {
     pub(crate) changed: bool,
 }
 
-/// A value at the point of a tableau, times a denominator: a constant, and how often a small positive number is added.
+/// A value at the point of a tableau, times a denominator: a constant, and the multiple of a small
+/// positive number.
 #[derive(Clone, Copy)]
 pub(crate) struct Value {
     pub(crate) constant: i64,
@@ -22,7 +23,7 @@ pub(crate) struct Value {
 }
 
 impl Value {
-    /// The value 0.
+    /// Returns the value 0.
     pub(crate) fn zero() -> Value {
         Value {
             constant: 0,
@@ -30,23 +31,23 @@ impl Value {
         }
     }
 
-    /// Whether two values are the same.
+    /// Returns whether two values are equal.
     pub(crate) fn is_same(self, other: Value) -> bool {
         self.constant == other.constant && self.small == other.small
     }
 }
 
-/// a * p - c * q. None where a number is too great.
+/// Returns `a * p - c * q`, or None on overflow.
 fn difference(a: i64, p: i64, c: i64, q: i64) -> Option<i64> {
     a.checked_mul(p)?.checked_sub(c.checked_mul(q)?)
 }
 
-/// A number with a product added to it. None where one is too great.
+/// Returns `sum + a * b`, or None on overflow.
 fn plus_product(sum: i64, a: i64, b: i64) -> Option<i64> {
     sum.checked_add(a.checked_mul(b)?)
 }
 
-/// How often a number goes into another. None where it is 0 or the quotient is too great.
+/// Returns `a / b`, or None if `b` is 0 or on overflow.
 pub(crate) fn quotient(a: i64, b: i64) -> Option<i64> {
     if a == b && a > 0 {
         Some(1)
@@ -55,7 +56,7 @@ pub(crate) fn quotient(a: i64, b: i64) -> Option<i64> {
     }
 }
 
-/// The greatest number that divides both. None where it is too great.
+/// Returns the greatest common divisor of two numbers, or None on overflow.
 fn common_divisor(a: i64, b: i64) -> Option<i64> {
     if a == 1 || b == 1 {
         return Some(1);
@@ -63,7 +64,7 @@ fn common_divisor(a: i64, b: i64) -> Option<i64> {
     i64::try_from(gcd(u128::from(a.unsigned_abs()), u128::from(b.unsigned_abs()))).ok()
 }
 
-/// The least number above 0 that both divide, where they are above 0. None where it is too great.
+/// Returns the least common multiple of two numbers above 0, or None on overflow.
 pub(crate) fn common_multiple(a: i64, b: i64) -> Option<i64> {
     if b == 1 || a == b {
         return Some(a);
@@ -74,7 +75,8 @@ pub(crate) fn common_multiple(a: i64, b: i64) -> Option<i64> {
     a.checked_div(common_divisor(a, b)?)?.checked_mul(b)
 }
 
-/// Two numbers divided by the greatest number that divides both, and with the other sign where the first is below 0.
+/// Returns two numbers divided by their greatest common divisor, with opposite signs if the first
+/// is below 0.
 fn in_lowest_terms(p: i64, c: i64) -> Option<(i64, i64)> {
     let common = common_divisor(p, c)?;
     let signed = if p < 0 { common.checked_neg()? } else { common };
@@ -87,7 +89,7 @@ fn in_lowest_terms(p: i64, c: i64) -> Option<(i64, i64)> {
     Some((p.checked_div(signed)?, c.checked_div(signed)?))
 }
 
-/// Puts c times the numbers into others, which are at least as many. False where a number is too great.
+/// Adds `c` times `numbers` to `sums`, which is at least as long. Returns false on overflow.
 fn add_numbers(sums: &mut [i64], c: i64, numbers: &[i64]) -> bool {
     for (i, &number) in numbers.iter().enumerate() {
         if number != 0 {
@@ -102,7 +104,7 @@ fn add_numbers(sums: &mut [i64], c: i64, numbers: &[i64]) -> bool {
     true
 }
 
-/// Takes p times each number. False where a number is too great.
+/// Multiplies each number by `p`. Returns false on overflow.
 fn scale_numbers(numbers: &mut [i64], p: i64) -> bool {
     for i in 0..numbers.len() {
         let Some(next) = numbers[i].checked_mul(p) else {
@@ -113,7 +115,7 @@ fn scale_numbers(numbers: &mut [i64], p: i64) -> bool {
     true
 }
 
-/// Takes c times the numbers off others, which are at least as many. False where a number is too great.
+/// Subtracts `c` times `numbers` from `sums`, which is at least as long. Returns false on overflow.
 fn take_numbers(sums: &mut [i64], c: i64, numbers: &[i64]) -> bool {
     for (i, &number) in numbers.iter().enumerate() {
         if number != 0 {
@@ -128,12 +130,13 @@ fn take_numbers(sums: &mut [i64], c: i64, numbers: &[i64]) -> bool {
     true
 }
 
-/// Takes p times each number, and c times another less. False where a number is too great.
+/// Replaces each number by `p` times it minus `c` times that of `others`. Returns false on
+/// overflow.
 fn mix_numbers(numbers: &mut [i64], p: i64, c: i64, others: &[i64]) -> bool {
     (p == 1 || scale_numbers(numbers, p)) && take_numbers(numbers, c, others)
 }
 
-/// The greatest number that divides a number and each of others. None where it is too great.
+/// Returns the greatest common divisor of `number` and all of `others`, or None on overflow.
 fn divisor_of(number: i64, others: &[i64]) -> Option<i64> {
     let mut common = number;
     for &other in others {
@@ -147,7 +150,7 @@ fn divisor_of(number: i64, others: &[i64]) -> Option<i64> {
     Some(common)
 }
 
-/// Divides each number. False where one can't be divided.
+/// Divides each number by `divisor`. Returns false if one cannot be divided.
 fn divide_numbers(numbers: &mut [i64], divisor: i64) -> bool {
     for i in 0..numbers.len() {
         if numbers[i] != 0 {
@@ -161,7 +164,7 @@ fn divide_numbers(numbers: &mut [i64], divisor: i64) -> bool {
 }
 
 impl Line {
-    /// The number at a place.
+    /// Returns the number of the column at a place.
     pub(crate) fn number(&self, place: usize) -> i64 {
         match self.numbers.get(place) {
             Some(number) => *number,
@@ -169,7 +172,7 @@ impl Line {
         }
     }
 
-    /// Adds c times another line, the denominators aside. False where a number is too great.
+    /// Adds `c` times the line `other`, apart from the denominators. Returns false on overflow.
     pub(crate) fn add(&mut self, c: i64, other: &Line) -> bool {
         let (Some(constant), Some(small)) = (
             plus_product(self.constant, c, other.constant),
@@ -182,8 +185,8 @@ impl Line {
         add_numbers(&mut self.numbers, c, &other.numbers)
     }
 
-    /// Takes the line p times, and c times another less, where the denominator is to be p times as great. False where a number is too
-    /// great.
+    /// Replaces the line by `p` times it minus `c` times `other`, with a denominator `p` times as
+    /// large. Returns false on overflow.
     fn mix(&mut self, p: i64, c: i64, other: &Line) -> bool {
         let (Some(constant), Some(small), Some(over)) = (
             difference(self.constant, p, c, other.constant),
@@ -198,7 +201,7 @@ impl Line {
         mix_numbers(&mut self.numbers, p, c, &other.numbers)
     }
 
-    /// Divides the line's numbers. False where one can't be divided.
+    /// Divides all numbers of the line by `divisor`. Returns false if one cannot be divided.
     fn divide(&mut self, divisor: i64) -> bool {
         let (Some(constant), Some(small), Some(over)) = (
             self.constant.checked_div(divisor),
@@ -213,13 +216,13 @@ impl Line {
         divide_numbers(&mut self.numbers, divisor)
     }
 
-    /// The greatest number that divides all of the line's numbers. None where it is too great.
+    /// Returns the greatest common divisor of all numbers of the line, or None on overflow.
     fn divisor(&self) -> Option<i64> {
         let first = common_divisor(self.small, common_divisor(self.constant, self.over)?)?;
         divisor_of(first, &self.numbers)
     }
 
-    /// Takes the line's numbers in lowest terms. False where one is too great.
+    /// Divides the line to lowest terms. Returns false on overflow.
     pub(crate) fn reduce(&mut self) -> bool {
         if self.over == 1 {
             return true;
@@ -230,7 +233,8 @@ impl Line {
         }
     }
 
-    /// The value at the tableau's point, times a denominator that the line's one divides. None where a number is too great.
+    /// Returns the value at the tableau's point, times `over`, a multiple of the line's
+    /// denominator, or None on overflow.
     pub(crate) fn value(&self, over: i64) -> Option<Value> {
         let factor = quotient(over, self.over)?;
         if factor == 1 {
@@ -245,7 +249,7 @@ impl Line {
         })
     }
 
-    /// Makes the list of numbers as long as another. Want of memory is the one error.
+    /// Extends the list of numbers to `width`.
     fn widen(&mut self, width: usize) -> Result<(), AllocError> {
         for _ in self.numbers.len()..width {
             self.numbers.push(0)?;
@@ -253,15 +257,15 @@ impl Line {
         Ok(())
     }
 
-    /// Puts a number at a place.
+    /// Sets the number of the column at a place.
     fn put(&mut self, place: usize, number: i64) {
         if let Some(entry) = self.numbers.get_mut(place) {
             *entry = number;
         }
     }
 
-    /// Exchanges a column for the row of which the pivot is the line. False where a number is too great; want of memory is the one
-    /// error.
+    /// Pivots the line: the variable of the line `pivot` replaces the column at `place`. Returns
+    /// false on overflow.
     fn exchange(&mut self, pivot: &Line, place: usize) -> Result<bool, AllocError> {
         let number = self.number(place);
         if number == 0 {
@@ -281,7 +285,7 @@ impl Line {
     }
 }
 
-/// The least denominator that lines have in common. None where it is too great.
+/// Returns the least common denominator of `lines`, or None on overflow.
 pub(crate) fn common_denominator(lines: &[Line]) -> Option<i64> {
     let mut over = 1;
     for line in lines {
@@ -292,8 +296,8 @@ pub(crate) fn common_denominator(lines: &[Line]) -> Option<i64> {
     Some(over)
 }
 
-/// Exchanges a column for a row, whose line is the pivot, in each of the lines. False where a number is too great; want of memory is the
-/// one error.
+/// Pivots each of `lines`: the variable of the line `pivot` replaces the column at `place`. Returns
+/// false on overflow.
 pub(crate) fn exchange_lines(
     lines: &mut [Line],
     pivot: &Line,

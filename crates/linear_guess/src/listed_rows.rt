@@ -1,19 +1,20 @@
-//! The rows of a path that a search makes use of: of those with the same terms the tightest one. Nothing rests on the choice: what is
-//! found by it is tested.
+//! The rows of a path that a search uses: of those with the same terms only the tightest.
+//! Untrusted: proposals are tested.
 use crate::pairs::clash;
 use crate::row_shapes::Shape;
 use crate::watched_rows::Watched;
 use linear_rows::{Row, have_same_terms};
 use std::alloc::{AllocError, Global};
 
-/// A row that is listed, and its shape.
+/// A listed row, and its shape.
 #[derive(Clone, Copy)]
 struct Listed {
     row: Watched,
     shape: Shape,
 }
 
-/// What was changed when a row was listed: its index, its place in the list, and the row that stood there before.
+/// A change of the list: the index of the row that was listed, its place, and the row that was
+/// there before.
 #[derive(Clone, Copy)]
 struct Change {
     row: usize,
@@ -21,7 +22,8 @@ struct Change {
     before: Option<Watched>,
 }
 
-/// The tightest rows of a path, how they came to be listed, how many rows were looked at, and which were chosen last.
+/// The tightest rows of a path, the changes that led to them, how many rows were read, and the rows
+/// that were chosen last.
 #[derive(Drop)]
 pub struct Listing {
     listed: Vec<Listed>,
@@ -30,12 +32,12 @@ pub struct Listing {
     pub(crate) chosen: Vec<Watched>,
 }
 
-/// Whether a row's constant says more than that of another with the same terms.
+/// Returns whether `row` is tighter than `other`, which has the same terms.
 fn is_tighter(row: &Row, other: &Row) -> bool {
     row.rest > other.rest || (row.rest == other.rest && row.strict && !other.strict)
 }
 
-/// Whether a listed row has the same terms as a row of this shape.
+/// Returns whether a listed row has the same terms as `row`.
 fn is_alike(listed: Listed, rows: &[Row], row: &Row, shape: Shape) -> bool {
     match rows.get(listed.row.index) {
         Some(other) => listed.shape.is_like(shape) && have_same_terms(&other.terms, &row.terms),
@@ -43,7 +45,7 @@ fn is_alike(listed: Listed, rows: &[Row], row: &Row, shape: Shape) -> bool {
     }
 }
 
-/// The place at which a row with the same terms is listed.
+/// Returns the place of the listed row with the same terms.
 fn place_of(listed: &[Listed], rows: &[Row], row: &Row, shape: Shape) -> Option<usize> {
     for place in 0..listed.len() {
         if is_alike(listed[place], rows, row, shape) {
@@ -54,7 +56,7 @@ fn place_of(listed: &[Listed], rows: &[Row], row: &Row, shape: Shape) -> Option<
 }
 
 impl Listing {
-    /// No row yet.
+    /// Returns an empty list.
     pub fn new(alloc: Global) -> Listing {
         Listing {
             listed: Vec::new(alloc),
@@ -64,7 +66,7 @@ impl Listing {
         }
     }
 
-    /// Takes back the last change.
+    /// Undoes the last change.
     fn undo(&mut self) {
         if let Some(change) = self.changes.pop() {
             match change.before {
@@ -80,7 +82,7 @@ impl Listing {
         }
     }
 
-    /// Whether the last change listed a row from a place on.
+    /// Returns whether the last change listed a row from index `len` on.
     fn is_beyond(&self, len: usize) -> bool {
         match self.changes.last() {
             Some(change) => change.row >= len,
@@ -88,7 +90,7 @@ impl Listing {
         }
     }
 
-    /// Forgets the rows from a place on.
+    /// Removes the rows from index `len` on.
     pub fn truncate(&mut self, len: usize) {
         for _ in 0..self.changes.len() {
             if !self.is_beyond(len) {
@@ -101,7 +103,7 @@ impl Listing {
         }
     }
 
-    /// Lists a row, unless one that says as much is listed.
+    /// Lists a row, unless one that is as tight is listed.
     fn put(&mut self, rows: &[Row], index: usize) -> Result<(), AllocError> {
         let Some(row) = rows.get(index) else {
             return Ok(());
@@ -124,7 +126,7 @@ impl Listing {
         }
     }
 
-    /// Lists a row in the place of another, where it says more.
+    /// Replaces a listed row by a tighter one.
     fn tighten(
         &mut self,
         rows: &[Row],
@@ -147,7 +149,7 @@ impl Listing {
         Ok(())
     }
 
-    /// Lists the rows before a place that weren't looked at.
+    /// Lists the rows before index `kept` that were not read yet.
     pub fn look(&mut self, rows: &[Row], kept: usize) -> Result<(), AllocError> {
         for index in self.looked..kept {
             self.put(rows, index)?;
@@ -156,7 +158,8 @@ impl Listing {
         Ok(())
     }
 
-    /// Multipliers of a row and a listed one that may combine them to a contradiction.
+    /// Returns multipliers of the row at `index` and a listed row that may combine them to a
+    /// contradiction.
     pub fn against(
         &self,
         alloc: Global,
@@ -177,7 +180,7 @@ impl Listing {
         Ok(None)
     }
 
-    /// Chooses the listed rows, and those from a place on.
+    /// Chooses the listed rows, and those from index `kept` on.
     pub fn choose(&mut self, rows: &[Row], kept: usize) -> Result<(), AllocError> {
         self.chosen.clear();
         for listed in &self.listed {
@@ -190,12 +193,12 @@ impl Listing {
     }
 }
 
-/// How often a row and the one at an index are taken so that they seem to contradict each other; None where they don't.
+/// Returns the multipliers of `row` and the row at `index`, if they seem to contradict each other.
 fn clash_at(row: &Row, rows: &[Row], index: usize) -> Option<(u64, u64)> {
     clash(row, rows.get(index)?)
 }
 
-/// The multipliers of two rows, the lesser index first.
+/// Returns the multipliers of two rows, the smaller index first.
 fn multipliers_of(
     alloc: Global,
     i: usize,

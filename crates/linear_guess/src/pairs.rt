@@ -1,10 +1,10 @@
-//! Two rows with opposite terms, which contradict each other where their constants do. Nothing rests on what is found here: the
-//! multipliers are tested.
+//! Pairs of rows with opposite terms, which contradict each other if their constants do. Untrusted:
+//! the multipliers are tested.
 use crate::spots::with_product;
 use heyvl_num::gcd;
 use linear_rows::Row;
 
-/// Whether p times the first terms and q times the second seem to vanish.
+/// Returns whether `p * a + q * b` seems to vanish.
 fn vanish(a: &[(u32, i64)], p: i64, b: &[(u32, i64)], q: i64) -> bool {
     for i in 0..a.len() {
         if let Some(&(y, d)) = b.get(i) {
@@ -17,7 +17,7 @@ fn vanish(a: &[(u32, i64)], p: i64, b: &[(u32, i64)], q: i64) -> bool {
     true
 }
 
-/// How often two terms are taken so that they vanish; None where they don't.
+/// Returns multipliers for which two terms vanish, if there are any.
 fn opposite(a: (u32, i64), b: (u32, i64)) -> Option<(i64, i64)> {
     if a.0 != b.0 || (a.1 < 0) == (b.1 < 0) {
         return None;
@@ -27,7 +27,7 @@ fn opposite(a: (u32, i64), b: (u32, i64)) -> Option<(i64, i64)> {
     if p == q { Some((1, 1)) } else { Some((p, q)) }
 }
 
-/// Whether p times the first constant and q times the second are a row that nothing meets.
+/// Returns whether the constants of `p * a + q * b` yield a false row.
 fn is_unmet(a: &Row, p: i64, b: &Row, q: i64) -> bool {
     let Some(first) = with_product(0, i128::from(a.rest), i128::from(p)) else {
         return false;
@@ -38,7 +38,7 @@ fn is_unmet(a: &Row, p: i64, b: &Row, q: i64) -> bool {
     sum > 0 || (sum == 0 && (a.strict || b.strict))
 }
 
-/// Two numbers divided by their greatest common divisor.
+/// Returns two numbers divided by their greatest common divisor.
 fn in_lowest_terms(p: u64, q: u64) -> Option<(u64, u64)> {
     if p == 1 || q == 1 {
         return Some((p, q));
@@ -49,7 +49,7 @@ fn in_lowest_terms(p: u64, q: u64) -> Option<(u64, u64)> {
     Some((u64::try_from(first).ok()?, u64::try_from(second).ok()?))
 }
 
-/// How often two rows are taken so that they seem to contradict each other; None where they don't.
+/// Returns the multipliers of two rows, if they seem to contradict each other.
 pub(crate) fn clash(a: &Row, b: &Row) -> Option<(u64, u64)> {
     if a.terms.len() != b.terms.len() {
         return None;

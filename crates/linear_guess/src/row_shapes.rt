@@ -1,7 +1,8 @@
-//! What shows of a row's terms at a glance. Nothing rests on it: by it rows are passed over whose terms would be compared in vain.
+//! Quick comparison of the terms of rows. Untrusted: it only saves full comparisons.
 use linear_rows::Row;
 
-/// How many terms a row has, the variable of the first one, and whether its coefficient is below 0.
+/// The number of terms of a row, the variable of the first one, and whether its coefficient is
+/// below 0.
 #[derive(Clone, Copy)]
 pub(crate) struct Shape {
     count: usize,
@@ -10,7 +11,7 @@ pub(crate) struct Shape {
 }
 
 impl Shape {
-    /// The shape of a row.
+    /// Returns the shape of `row`.
     pub(crate) fn of(row: &Row) -> Shape {
         let (variable, coefficient) = match row.terms.first() {
             Some(&term) => term,
@@ -23,14 +24,14 @@ impl Shape {
         }
     }
 
-    /// Whether two rows may have the same terms.
+    /// Returns whether two rows may have the same terms.
     pub(crate) fn is_like(self, other: Shape) -> bool {
         self.count == other.count
             && self.variable == other.variable
             && self.negative == other.negative
     }
 
-    /// Whether the terms of two rows may be opposite.
+    /// Returns whether the terms of two rows may be opposite.
     pub(crate) fn is_opposite(self, other: Shape) -> bool {
         self.count == other.count
             && self.variable == other.variable

@@ -1,4 +1,4 @@
-//! A search for quick answers along a path, which remembers what it found of the path's rows.
+//! A search for proposals along a path, which records what it found for the rows of the path.
 ghost use Rattle.std.specs.Prelude.{◌≡◌, ◌≤◌, List, IfOk, length, take};
 ghost use Rattle.std.specs.List.{All};
 ghost use Rattle.linear_rows.specs.Row.{Row as PlainRow, IsRow};
@@ -14,8 +14,8 @@ use crate::spots::{Spot, is_met, met_from, solved_by};
 use linear_rows::Row;
 use std::alloc::{AllocError, Global};
 
-/// What is remembered of the rows of a path: the point in use, those that were in use before it and aren't known to meet as many
-/// rows, the oldest first, the tightest rows, and what is left of the last simplex.
+/// The records of a search: the point in use; the earlier points that are known to satisfy fewer
+/// rows, the oldest first; the tightest rows; and the tableau of the last simplex search.
 #[derive(Drop)]
 pub struct Search {
     known: KnownPoint,
@@ -24,7 +24,8 @@ pub struct Search {
     simplex: Simplex,
 }
 
-/// Multipliers of two rows that may combine them to a contradiction: a listed one, and one from a place on that the point misses.
+/// Returns multipliers of two rows that may combine them to a contradiction: a listed row, and one
+/// from index `from` on that the point `known` violates.
 fn pair_of(
     alloc: Global,
     rows: &[Row],
@@ -43,7 +44,7 @@ fn pair_of(
 }
 
 impl Search {
-    /// Nothing is known of any rows but the point at which each variable is 0.
+    /// Returns a search without rows; the point in use is the origin.
     pub fn new(alloc: Global) -> Search
         ensures { (rows : List PlainRow) → Remembers result rows }
     {
@@ -58,25 +59,29 @@ impl Search {
         }
     }
 
-    /// Forgets what is known of the rows from a place on, so that others may stand there.
+    /// Removes what is known of the rows from index `len` on, so that other rows may follow.
     pub fn truncate(&mut self, len: usize)
-        ensures { (before after : List PlainRow) → Remembers self.old before → take len before ≡ take len after → Remembers self.new after }
+        ensures { (before after : List PlainRow) → Remembers self.old before
+            → take len before ≡ take len after → Remembers self.new after }
     {
         self.forget(len);
         self.listing.truncate(len);
         self.simplex.truncate(len);
     }
 
-    /// Forgets that the points meet rows from a place on, and goes back to the oldest of those that are as good then.
+    /// Removes what is known of the points from row `len` on, and returns to the oldest point that
+    /// is as good as the one in use.
     fn forget(&mut self, len: usize)
-        ensures { (before after : List PlainRow) → Remembers self.old before → take len before ≡ take len after → Remembers self.new after }
+        ensures { (before after : List PlainRow) → Remembers self.old before
+            → take len before ≡ take len after → Remembers self.new after }
     {
         self.known.truncate(len);
         truncate_each(&mut self.earlier, len);
         self.go_back();
     }
 
-    /// Takes up the oldest of the points that are known to meet as many rows as the one in use: it may meet what that one misses.
+    /// Returns to the oldest of the points that are known to satisfy as many rows as the one in
+    /// use: it may satisfy a row that the one in use violates.
     fn go_back(&mut self)
         ensures { (rows : List PlainRow) → Remembers self.old rows → Remembers self.new rows }
     {
@@ -88,7 +93,7 @@ impl Search {
         }
     }
 
-    /// Whether the point that was in use before is known to meet as many rows as the one in use.
+    /// Returns whether the previous point is known to satisfy as many rows as the one in use.
     fn is_matched(&self) -> bool {
         match self.earlier.last() {
             Some(point) => point.met >= self.known.met,
@@ -96,7 +101,7 @@ impl Search {
         }
     }
 
-    /// Takes up the point that was in use before.
+    /// Returns to the previous point.
     fn take_up(&mut self)
         ensures { (rows : List PlainRow) → Remembers self.old rows → Remembers self.new rows }
     {
@@ -105,10 +110,11 @@ impl Search {
         }
     }
 
-    /// Takes a point into use. The one before it is kept where it isn't known to meet as many rows, so there are no more points than
-    /// rows. Want of memory is the one error.
+    /// Puts `point` in use. The previous point is kept if it is known to satisfy fewer rows, so
+    /// there are at most as many points as rows.
     fn put(&mut self, point: KnownPoint) -> Result<(), AllocError>
-        ensures { (rows : List PlainRow) → Remembers self.old rows → IsKnown rows point → Remembers self.new rows }
+        ensures { (rows : List PlainRow) → Remembers self.old rows → IsKnown rows point
+            → Remembers self.new rows }
     {
         let before = std::mem::replace(&mut self.known, point);
         if before.met < self.known.met {
@@ -117,11 +123,13 @@ impl Search {
         Ok(())
     }
 
-    /// How many of the first rows the point in use meets. The search remembers those that are kept.
+    /// Returns how many of the first rows the point in use satisfies, and records this up to row
+    /// `kept`.
     fn advance(&mut self, rows: &[Row], kept: usize) -> usize
         requires { Remembers self.old rows.now }
         ensures within { result ≤ length rows.now }
-        ensures met { AreMetBy self.new.known.spot.below self.new.known.spot.tops.items (take result rows.now) }
+        ensures met { AreMetBy self.new.known.spot.below self.new.known.spot.tops.items
+            (take result rows.now) }
         ensures remembered { Remembers self.new (take kept rows.now) }
     {
         self.forget(kept);
@@ -130,9 +138,9 @@ impl Search {
         met
     }
 
-    /// Finds a point that meets rows over variables below a number, or multipliers that combine them to a contradiction, or nothing:
-    /// it may find nothing of any rows. The first rows, as many as are kept, are those of a path, and the search remembers what it
-    /// found of them; the others hold only here. Want of memory is the one error.
+    /// Finds out whether the rows `rows`, with variables below `count`, have a solution; `Open` is
+    /// always allowed. The first `kept` rows are those of a path, and the search records what it
+    /// finds for them; the others are used only in this call.
     pub fn find(
         &mut self,
         alloc: Global,
@@ -161,7 +169,8 @@ impl Search {
         }
     }
 
-    /// What a simplex over the listed rows and those that hold only here proposes.
+    /// Returns the proposal of a simplex search over the listed rows, and those from index `kept`
+    /// on.
     fn proposed(
         &mut self,
         alloc: Global,
@@ -179,7 +188,7 @@ impl Search {
         Ok(proposal)
     }
 
-    /// Takes a point into use that meets the rows. Want of memory is the one error.
+    /// Tests the proposed point `spot`, and puts it in use if it satisfies the rows.
     fn with_point(&mut self, rows: &[Row], kept: usize, spot: Spot) -> Result<Finding, AllocError>
         requires remembered { Remembers self.old (take kept rows.now) }
         ensures finding { IfOk result (λ f. IsFinding rows.now f) }

@@ -1,5 +1,5 @@
-//! A search for a point that meets rows, or for multipliers that show that none does, by the simplex method. Its tableau is kept from
-//! one search to the next. Nothing rests on it: what it proposes is tested by others.
+//! A simplex search for a point that satisfies rows, or for multipliers that show that there is
+//! none. The tableau is kept from one search to the next. Untrusted: proposals are tested.
 use crate::lines::Line;
 use crate::spots::Spot;
 use crate::tableau::{Head, Tableau};
@@ -8,48 +8,49 @@ use heyvl_num::gcd;
 use linear_rows::{Row, TooGreat};
 use std::alloc::{AllocError, Global};
 
-/// More exchanges than these end a search.
+/// The maximum number of pivots of a search.
 const MOST_EXCHANGES: u32 = 1000;
 
-/// After these exchanges the first row that isn't met is taken, so that none comes again; before, the one that is missed by most.
+/// The number of pivots for which the row that is violated most is chosen. After that, the first
+/// violated row is chosen, so that no tableau repeats.
 const HASTY_EXCHANGES: u32 = 50;
 
-/// What a search proposes.
+/// The proposal of a search.
 #[derive(Drop)]
 pub(crate) enum Proposal {
-    /// Multipliers by row index, which may combine the rows to a contradiction.
+    /// Multipliers, by row index, that may combine the rows to a contradiction.
     Multipliers(Vec<(u32, u64)>),
-    /// A point, which may meet the rows.
+    /// A point that may satisfy the rows.
     Point(Spot),
     /// The search was given up.
     Nothing,
 }
 
-/// What one exchange comes to.
+/// The result of one pivot.
 #[derive(Drop)]
 enum Turn {
-    /// The search goes on.
+    /// The search continues.
     On,
-    /// The search is at an end.
+    /// The search has ended.
     Done(Proposal),
 }
 
-/// The tableau of the last search, and for each variable one more than the index of the row that says that it isn't negative and
-/// nothing else, or 0 where none does.
+/// The tableau of the last search. `signs` has, for each variable, the index of its sign row plus
+/// 1, or 0 if there is none.
 #[derive(Drop)]
 pub(crate) struct Simplex {
     tableau: Tableau,
     signs: Vec<u32>,
 }
 
-/// A row's multiplier, without its sign.
+/// Sets the multiplier of `row` to the absolute value of `number`.
 fn put_share(shares: &mut Vec<u64>, row: u32, number: i64) {
     if let Some(share) = shares.get_mut(row as usize) {
         *share = number.unsigned_abs();
     }
 }
 
-/// The greatest common divisor of numbers.
+/// Returns the greatest common divisor of the numbers.
 fn common_divisor(shares: &[u64]) -> u64 {
     let mut common: u64 = 0;
     for &share in shares {
@@ -60,7 +61,7 @@ fn common_divisor(shares: &[u64]) -> u64 {
     common
 }
 
-/// How many numbers are above 0.
+/// Returns how many numbers are above 0.
 fn count_positive(shares: &[u64]) -> usize {
     let mut count: usize = 0;
     for &share in shares {
@@ -71,7 +72,7 @@ fn count_positive(shares: &[u64]) -> usize {
     count
 }
 
-/// The multipliers above 0, with their rows, in lowest terms.
+/// Returns the multipliers above 0 with their rows, in lowest terms.
 fn in_lowest_terms(alloc: Global, shares: &[u64]) -> Result<Vec<(u32, u64)>, AllocError> {
     let common = common_divisor(shares);
     let mut multipliers: Vec<(u32, u64)> = Vec::with_capacity(alloc, count_positive(shares))?;
@@ -85,7 +86,7 @@ fn in_lowest_terms(alloc: Global, shares: &[u64]) -> Result<Vec<(u32, u64)>, All
     Ok(multipliers)
 }
 
-/// Whether a row that isn't met is taken before the one that was found.
+/// Returns whether a violated row is chosen before the one found so far.
 fn is_before(i: usize, constant: i128, found: Option<usize>, most: i128, hasty: bool) -> bool {
     match found {
         None => true,
@@ -93,7 +94,8 @@ fn is_before(i: usize, constant: i128, found: Option<usize>, most: i128, hasty: 
     }
 }
 
-/// A row that isn't met at the tableau's point: that of the least index, or in haste the one that is missed by most.
+/// Returns a row that is violated at the tableau's point: the one with the least index or, if
+/// `hasty`, the one that is violated most.
 fn violated(
     tableau: &mut Tableau,
     rows: &[Row],
@@ -115,7 +117,7 @@ fn violated(
 }
 
 impl Simplex {
-    /// No search yet.
+    /// Returns a simplex without a tableau.
     pub(crate) fn new(alloc: Global) -> Simplex {
         Simplex {
             tableau: Tableau::new(alloc),
@@ -123,12 +125,12 @@ impl Simplex {
         }
     }
 
-    /// Forgets the rows from a place on.
+    /// Removes the rows from index `len` on.
     pub(crate) fn truncate(&mut self, len: usize) {
         self.tableau.truncate(len);
     }
 
-    /// Forgets of which variables rows say that they aren't negative, and makes room for those below a number.
+    /// Clears the table of sign rows, and extends it to `count` variables.
     fn reset_signs(&mut self, count: usize) -> Result<(), AllocError> {
         for x in 0..self.signs.len() {
             self.signs[x] = 0;
@@ -139,14 +141,14 @@ impl Simplex {
         Ok(())
     }
 
-    /// Notes that the row at an index says that a variable isn't negative.
+    /// Records that the row at `index` is the sign row of `x`.
     fn note_sign(&mut self, x: u32, index: u32) {
         if let Some(sign) = self.signs.get_mut(x as usize) {
             *sign = index.saturating_add(1);
         }
     }
 
-    /// Notes of which variables the rows say that they aren't negative.
+    /// Records the sign rows among `chosen`.
     fn note_signs(&mut self, chosen: &[Watched]) {
         for row in chosen {
             if let (Some(x), Ok(index)) = (row.sign, u32::try_from(row.index)) {
@@ -155,12 +157,12 @@ impl Simplex {
         }
     }
 
-    /// The row that says that a variable isn't negative.
+    /// Returns the index of the sign row of `x`.
     fn sign(&self, x: u32) -> Option<u32> {
         self.signs.get(x as usize)?.checked_sub(1)
     }
 
-    /// The row for which a column stands. None where what it stands for may be above or below 0.
+    /// Returns the row of a column, or None if its value may be above or below 0.
     fn row_of(&self, head: Head) -> Option<u32> {
         match head {
             Head::Free => None,
@@ -169,7 +171,7 @@ impl Simplex {
         }
     }
 
-    /// Gives a variable a column and a line.
+    /// Adds a column and a line for `x`.
     fn put_variable(&mut self, alloc: Global, x: u32) -> Result<(), AllocError> {
         if !self.tableau.has_line(x) {
             let is_signed = self.sign(x).is_some();
@@ -178,7 +180,7 @@ impl Simplex {
         Ok(())
     }
 
-    /// Gives each variable of the row at an index a column and a line.
+    /// Adds a column and a line for each variable of the row at `index`.
     fn put_variables_of(
         &mut self,
         alloc: Global,
@@ -195,7 +197,7 @@ impl Simplex {
         Ok(())
     }
 
-    /// Gives each variable of the rows a column and a line.
+    /// Adds a column and a line for each variable of the rows.
     fn put_variables(
         &mut self,
         alloc: Global,
@@ -211,7 +213,8 @@ impl Simplex {
         Ok(())
     }
 
-    /// A column that can be moved so that the line's value falls: one that stands for no row, else that of the least row.
+    /// Returns a column whose change lowers the line's value: one without a row, otherwise that
+    /// with the least row.
     fn entering(&self, line: &Line) -> Option<usize> {
         let mut found: Option<usize> = None;
         let mut least = u32::MAX;
@@ -232,7 +235,7 @@ impl Simplex {
         found
     }
 
-    /// The multipliers that the line of a row shows, among so many rows.
+    /// Returns the multipliers, among `count` rows, that the line of a violated row yields.
     fn multipliers(
         &self,
         alloc: Global,
@@ -250,7 +253,7 @@ impl Simplex {
         in_lowest_terms(alloc, &shares)
     }
 
-    /// What the tableau's point comes to, which meets the rows.
+    /// Returns the tableau's point, which satisfies the rows.
     fn met(&self, alloc: Global, rows: &[Row], chosen: &[Watched]) -> Result<Proposal, AllocError> {
         match self.tableau.point(alloc, rows, chosen)? {
             Some(spot) => Ok(Proposal::Point(spot)),
@@ -258,7 +261,7 @@ impl Simplex {
         }
     }
 
-    /// Exchanges a column for a row that isn't met.
+    /// Pivots on the violated row at index `at`.
     fn exchange(&mut self, alloc: Global, rows: &[Row], at: usize) -> Result<Turn, AllocError> {
         let (Some(row), Ok(index)) = (rows.get(at), u32::try_from(at)) else {
             return Ok(Turn::Done(Proposal::Nothing));
@@ -281,7 +284,7 @@ impl Simplex {
         }
     }
 
-    /// Exchanges a column for a row that isn't met, if there is one, after so many exchanges.
+    /// Pivots on a violated row, if there is one, after `turns` pivots.
     fn take_turn(
         &mut self,
         alloc: Global,
@@ -299,7 +302,7 @@ impl Simplex {
         }
     }
 
-    /// What exchanges come to from the tableau as it stands. It is forgotten where they come to nothing.
+    /// Pivots until there is a proposal. If the search is given up, the tableau is cleared.
     fn go_on(
         &mut self,
         alloc: Global,
@@ -320,8 +323,8 @@ impl Simplex {
         Ok(Proposal::Nothing)
     }
 
-    /// Proposes multipliers or a point for the chosen ones of rows over variables below a number. What is left of an earlier search
-    /// is made use of, but where that comes to nothing, the search begins again without it. Want of memory is the one error.
+    /// Proposes multipliers or a point for the rows `chosen`, with variables below `count`. Starts
+    /// from the tableau of the last search, and if that is given up, once more without it.
     pub(crate) fn propose(
         &mut self,
         alloc: Global,

@@ -1,4 +1,4 @@
-//! Points over one common denominator, and the rows that they meet.
+//! Points over one common denominator, and the rows that they satisfy.
 ghost use Rattle.std.specs.Prelude.{◌≡◌, ◌+ℤ◌, ◌*ℤ◌, ◌<◌, ◌≤◌, ℤ, true, IfSome, length, take};
 ghost use Rattle.linear_rows.specs.Terms.{sum_at};
 ghost use Rattle.linear_rows.specs.Points.{IsBelow};
@@ -8,7 +8,7 @@ ghost use Rattle.linear_guess.specs.Spots.{top_at, IsMetBy, AreMetBy};
 use linear_rows::{Row, solutions_of_rows};
 use std::alloc::Global;
 
-/// A point: each variable's value times the common denominator, and 0 beyond the list.
+/// A point: the value of variable `x` is `tops[x] / below`, and 0 beyond the list.
 #[derive(Drop)]
 pub struct Spot {
     pub below: u64,
@@ -16,7 +16,7 @@ pub struct Spot {
 }
 
 impl Spot {
-    /// The point at which each variable is 0.
+    /// Returns the point at which each variable is 0.
     pub fn origin(alloc: Global) -> Spot
         ensures { result.below ≡ 1 }
     {
@@ -36,7 +36,7 @@ fn top_of(tops: &[i64], x: u32) -> i64
     }
 }
 
-/// A sum with a product added to it; None where one of them is too great.
+/// Returns `sum + a * b`, or None on overflow.
 pub(crate) fn with_product(sum: i128, a: i128, b: i128) -> Option<i128>
     ensures { IfSome result (λ z. z ≡ sum +ℤ (a *ℤ b)) }
 {
@@ -44,7 +44,7 @@ pub(crate) fn with_product(sum: i128, a: i128, b: i128) -> Option<i128>
     sum.checked_add(product)
 }
 
-/// A variable's term at a point, times its denominator, and a sum; None where a number is too great.
+/// Returns `sum` plus the term of `x` at a point, times its denominator, or None on overflow.
 fn with_term(tops: &[i64], x: u32, c: i64, sum: i128) -> Option<i128>
     ensures { IfSome result (λ z. z ≡ (c *ℤ top_at tops.now x) +ℤ sum) }
 {
@@ -53,7 +53,7 @@ fn with_term(tops: &[i64], x: u32, c: i64, sum: i128) -> Option<i128>
     product.checked_add(sum)
 }
 
-/// The sum of the terms at a point, times its denominator; None where it is too great.
+/// Returns the sum of the terms at a point, times its denominator, or None on overflow.
 fn terms_at(terms: &[(u32, i64)], tops: &[i64]) -> Option<i128>
     ensures { IfSome result (λ z. z ≡ sum_at (top_at tops.now) terms.now) }
 {
@@ -67,14 +67,14 @@ fn terms_at(terms: &[(u32, i64)], tops: &[i64]) -> Option<i128>
     Some(sum)
 }
 
-/// Whether a left side is below 0 or, where it isn't strict, at most 0.
+/// Returns true only if `left` is at most 0 and, if `strict`, below 0.
 fn is_below(strict: bool, left: i128) -> bool
     ensures { result ≡ true → IsBelow strict left }
 {
     if strict { left < 0 } else { left <= 0 }
 }
 
-/// Whether a point is known to meet a row.
+/// Returns true only if a point satisfies `row`.
 pub(crate) fn is_met(row: &Row, below: u64, tops: &[i64]) -> bool
     ensures { result ≡ true → IsMetBy below tops.now row.now }
 {
@@ -87,11 +87,13 @@ pub(crate) fn is_met(row: &Row, below: u64, tops: &[i64]) -> bool
     is_below(row.strict, left)
 }
 
-/// How many of the first rows a point is known to meet, where it meets as many as these.
+/// Returns how many of the first rows a point satisfies, at least `from`; it satisfies the first
+/// `from` rows.
 pub(crate) fn met_from(rows: &[Row], spot: &Spot, from: usize) -> usize
     requires { from ≤ length rows.now }
     ensures within { result ≤ length rows.now }
-    ensures met { AreMetBy spot.now.below spot.now.tops.items (take from rows.now) → AreMetBy spot.now.below spot.now.tops.items (take result rows.now) }
+    ensures met { AreMetBy spot.now.below spot.now.tops.items (take from rows.now)
+        → AreMetBy spot.now.below spot.now.tops.items (take result rows.now) }
 {
     for i in from..rows.len() {
         if !is_met(&rows[i], spot.below, &spot.tops) {
@@ -101,7 +103,7 @@ pub(crate) fn met_from(rows: &[Row], spot: &Spot, from: usize) -> usize
     rows.len()
 }
 
-/// Rows that a point meets are solvable.
+/// States that rows that a point satisfies are solvable.
 pub(crate) fn solved_by(spot: &Spot, rows: &[Row])
     requires positive { 0 < spot.now.below }
     requires met { AreMetBy spot.now.below spot.now.tops.items rows.now }

@@ -1,22 +1,24 @@
-//! The tableau of a simplex over rows: what each variable is once some of the rows' left sides are given. Nothing rests on it.
+//! The tableau of a simplex search: a line for each variable, over the columns. Untrusted:
+//! proposals are tested.
 use crate::lines::{Line, Value, common_denominator, common_multiple, exchange_lines, quotient};
 use crate::spots::Spot;
 use crate::watched_rows::{Watched, bit_of};
 use linear_rows::Row;
 use std::alloc::{AllocError, Global};
 
-/// What a column stands for, which is 0 at the point of a tableau.
+/// The meaning of a column. Its value is 0 at the point of a tableau.
 #[derive(Clone, Copy)]
 pub(crate) enum Head {
-    /// Something that may be above or below 0.
+    /// A value that may be above or below 0.
     Free,
     /// The left side of the row at an index.
     Side(u32),
-    /// A variable with the other sign. It may be above or below 0, unless a row says that the variable isn't negative.
+    /// The negative of a variable. It may be above or below 0, unless the variable has a sign row.
     Sign(u32),
 }
 
-/// A row's left side at the point of a tableau, times the denominator: a constant, and how often a small positive number is added.
+/// The left side of a row at the point of a tableau, times the denominator: a constant, and the
+/// multiple of a small positive number.
 #[derive(Clone, Copy)]
 pub(crate) struct Side {
     pub(crate) constant: i128,
@@ -24,30 +26,33 @@ pub(crate) struct Side {
 }
 
 impl Side {
-    /// Whether the row is met.
+    /// Returns whether the row is satisfied.
     pub(crate) fn is_met(self) -> bool {
         self.constant < 0 || (self.constant == 0 && self.small <= 0)
     }
 }
 
-/// A variable's value at the point of a tableau, times the denominator, and the turn since which it has been this.
+/// The value of a variable at the point of a tableau, times the denominator, and the evaluation
+/// since which it is the same.
 #[derive(Clone, Copy)]
 struct Entry {
     value: Value,
     since: u64,
 }
 
-/// A row's left side at the point of a tableau, and the turn at which it was this; 0 where it isn't known.
+/// The left side of a row at the point of a tableau, and the evaluation at which it was computed, 0
+/// if there is none.
 #[derive(Clone, Copy)]
 struct Noted {
     side: Side,
     turn: u64,
 }
 
-/// A line for each variable that has occurred in rows, which variable that is, the values of the variables at the tableau's point, the
-/// denominator of these and the turn since which it has been this, the rows' left sides as they were found, how often the values were
-/// found, and bits of the variables whose values have changed since the left sides were looked at. A variable has one more than its
-/// place, or 0 where it has none.
+/// A line for each variable that has occurred in rows, with the variable's number in `names`.
+/// `places` has the place of each variable's line plus 1, or 0 if it has none. `values` are at the
+/// tableau's point, times `over`; `since` is the evaluation since which `over` is the same. `sides`
+/// are the left sides of rows as computed last. `turn` is the number of evaluations, and `changes`
+/// has the bits of the variables whose values have changed.
 #[derive(Drop)]
 pub(crate) struct Tableau {
     places: Vec<usize>,
@@ -62,12 +67,12 @@ pub(crate) struct Tableau {
     changes: u64,
 }
 
-/// A sum with a product added to it. Beyond 128 bits it wraps: what comes of it is only proposed.
+/// Returns `sum + a * b`. It wraps at 128 bits, because the result is only used for a proposal.
 fn with_product(sum: i128, a: i64, b: i64) -> i128 {
     sum.wrapping_add(i128::from(a).wrapping_mul(i128::from(b)))
 }
 
-/// The line of a variable that a column stands for, or whose negation it stands for.
+/// Returns the line of a variable that is a column or the negative of one.
 fn first_line(alloc: Global, place: usize, number: i64) -> Result<Line, AllocError> {
     let mut numbers: Vec<i64> = vec![in alloc; 0; place]?;
     numbers.push(number)?;
@@ -81,7 +86,7 @@ fn first_line(alloc: Global, place: usize, number: i64) -> Result<Line, AllocErr
 }
 
 impl Tableau {
-    /// The tableau without variables.
+    /// Returns the tableau without variables.
     pub(crate) fn new(alloc: Global) -> Tableau {
         Tableau {
             places: Vec::new(alloc),
@@ -97,18 +102,18 @@ impl Tableau {
         }
     }
 
-    /// Whether no variable has a line.
+    /// Returns whether no variable has a line.
     pub(crate) fn is_empty(&self) -> bool {
         self.lines.is_empty()
     }
 
-    /// The line of a variable. None where it has none.
+    /// Returns the line of `x`, if it has one.
     fn line_of(&self, x: usize) -> Option<&Line> {
         let place = self.places.get(x)?.checked_sub(1)?;
         self.lines.get(place)
     }
 
-    /// Makes room for the variables below a number, and for so many rows. Want of memory is the one error.
+    /// Extends the lists to `count` variables and `rows` rows.
     pub(crate) fn reserve(&mut self, count: usize, rows: usize) -> Result<(), AllocError> {
         for _ in self.places.len()..count {
             self.places.push(0)?;
@@ -131,7 +136,8 @@ impl Tableau {
         Ok(())
     }
 
-    /// Whether the left side of the row at an index was found, so that its variables have lines.
+    /// Returns whether the left side of the row at `index` was computed, so that its variables have
+    /// lines.
     pub(crate) fn is_noted(&self, index: usize) -> bool {
         match self.sides.get(index) {
             Some(noted) => noted.turn > 0,
@@ -139,7 +145,7 @@ impl Tableau {
         }
     }
 
-    /// Whether a variable has a line.
+    /// Returns whether `x` has a line.
     pub(crate) fn has_line(&self, x: u32) -> bool {
         match self.places.get(x as usize) {
             Some(place) => *place > 0,
@@ -147,7 +153,7 @@ impl Tableau {
         }
     }
 
-    /// Gives a variable a column and a line, if it has none. Want of memory is the one error.
+    /// Adds a column and a line for `x`, if it has none.
     pub(crate) fn put_variable(
         &mut self,
         alloc: Global,
@@ -171,7 +177,7 @@ impl Tableau {
         Ok(())
     }
 
-    /// Frees the columns that stand for rows from a place on, and forgets what was found of these.
+    /// Frees the columns of the rows from index `len` on, and removes their left sides.
     pub(crate) fn truncate(&mut self, len: usize) {
         self.sides.truncate(len);
         for i in 0..self.columns.len() {
@@ -183,7 +189,7 @@ impl Tableau {
         }
     }
 
-    /// Takes a denominator for the values, from this turn on if it is another, and tells whether it is.
+    /// Sets the denominator of the values, and returns whether it has changed.
     fn put_over(&mut self, over: i64) -> bool {
         let other = over != self.over;
         if other {
@@ -194,7 +200,7 @@ impl Tableau {
         other
     }
 
-    /// Takes a value for a variable, from this turn on if it is another.
+    /// Sets the value of `x`.
     fn put_value(&mut self, x: u32, value: Value) {
         if let Some(entry) = self.values.get_mut(x as usize) {
             if !entry.value.is_same(value) {
@@ -207,7 +213,7 @@ impl Tableau {
         }
     }
 
-    /// Finds the value of the variable that has the line at a place. False where a number is too great.
+    /// Computes the value of the line at a place. Returns false on overflow.
     fn evaluate_line(&mut self, place: usize) -> bool {
         let (Some(line), Some(&x)) = (self.lines.get_mut(place), self.names.get(place)) else {
             return true;
@@ -220,7 +226,7 @@ impl Tableau {
         true
     }
 
-    /// Whether the line at a place has changed since its value was found.
+    /// Returns whether the line at a place has changed since its value was computed.
     fn is_changed(&self, place: usize) -> bool {
         match self.lines.get(place) {
             Some(line) => line.changed,
@@ -228,8 +234,8 @@ impl Tableau {
         }
     }
 
-    /// Finds the values of the variables at the tableau's point. The left sides are to be looked at that may have changed, or all. False
-    /// where a number is too great.
+    /// Computes the values of the variables at the tableau's point. The left sides to be computed
+    /// are those that may have changed, or all. Returns false on overflow.
     pub(crate) fn evaluate(&mut self, all: bool) -> bool {
         let Some(over) = common_denominator(&self.lines) else {
             return false;
@@ -247,7 +253,7 @@ impl Tableau {
         true
     }
 
-    /// A row's left side at the tableau's point. None where a variable has no value.
+    /// Returns the left side of `row` at the tableau's point, or None if a variable has no value.
     fn side(&self, row: &Row) -> Option<Side> {
         let mut constant = with_product(0, row.rest, self.over);
         let mut small: i128 = if row.strict { i128::from(self.over) } else { 0 };
@@ -259,7 +265,7 @@ impl Tableau {
         Some(Side { constant, small })
     }
 
-    /// Whether a row's left side is still what it was at a turn.
+    /// Returns whether the left side of `row` is the same as at evaluation `turn`.
     fn is_since(&self, row: &Row, turn: u64) -> bool {
         if turn < self.since {
             return false;
@@ -277,7 +283,7 @@ impl Tableau {
         true
     }
 
-    /// The left side of a row that says that a variable isn't negative. None where it has no value.
+    /// Returns the left side of the sign row of `x`, or None if `x` has no value.
     fn side_of_sign(&self, x: u32) -> Option<Side> {
         let value = self.values.get(x as usize)?.value;
         Some(Side {
@@ -286,7 +292,8 @@ impl Tableau {
         })
     }
 
-    /// The left side of the row at an index, which is noted. None where a variable has no value.
+    /// Computes and records the left side of the row at `index`. Returns None if a variable has no
+    /// value.
     fn note_side(&mut self, rows: &[Row], index: usize) -> Option<Side> {
         let side = self.side(rows.get(index)?)?;
         if let Some(entry) = self.sides.get_mut(index) {
@@ -298,8 +305,8 @@ impl Tableau {
         Some(side)
     }
 
-    /// The left side of a row at the tableau's point, where it is looked at each time that the values are found. None where a variable
-    /// has no value.
+    /// Returns the left side of `row` at the tableau's point, or None if a variable has no value.
+    /// It has to be called after each evaluation.
     pub(crate) fn side_at(&mut self, rows: &[Row], row: Watched) -> Option<Side> {
         if let Some(x) = row.sign {
             return self.side_of_sign(x);
@@ -313,7 +320,7 @@ impl Tableau {
         self.note_side(rows, row.index)
     }
 
-    /// The left side of a row that was looked at.
+    /// Returns the recorded left side of `row`.
     fn known_side(&self, row: Watched) -> Option<Side> {
         match row.sign {
             Some(x) => self.side_of_sign(x),
@@ -321,7 +328,7 @@ impl Tableau {
         }
     }
 
-    /// The least denominator that the lines of a row's variables have in common. None where it is too great.
+    /// Returns the least common denominator of the lines of a row's variables, or None on overflow.
     fn denominator(&self, row: &Row) -> Option<i64> {
         let mut over = 1;
         for &(x, _) in &row.terms {
@@ -330,7 +337,8 @@ impl Tableau {
         Some(over)
     }
 
-    /// Adds c times the line of a variable to one with this denominator. None where a number is too great.
+    /// Adds `c` times the line of `x` to `line`, whose denominator is a multiple. Returns None on
+    /// overflow.
     fn with_term(&self, line: &mut Line, x: u32, c: i64) -> Option<()> {
         let other = self.line_of(x as usize)?;
         let factor = quotient(line.over, other.over)?.checked_mul(c)?;
@@ -341,7 +349,7 @@ impl Tableau {
         }
     }
 
-    /// The line of a row. None where a number is too great; want of memory is the one error.
+    /// Returns the line of a row, or None on overflow.
     pub(crate) fn line(&self, alloc: Global, row: &Row) -> Result<Option<Line>, AllocError> {
         let Some(over) = self.denominator(row) else {
             return Ok(None);
@@ -364,7 +372,8 @@ impl Tableau {
         Ok(if line.reduce() { Some(line) } else { None })
     }
 
-    /// The greatest value of the small number at which each row is met, at most 1: a numerator and a denominator.
+    /// Returns the largest value, at most 1, of the small number at which each row is satisfied: a
+    /// numerator and a denominator.
     fn small(&self, watched: &[Watched]) -> Option<(i64, i64)> {
         let mut top: i64 = 1;
         let mut below: i64 = 1;
@@ -382,7 +391,8 @@ impl Tableau {
         Some((top, below))
     }
 
-    /// Puts the value of a variable into others, where the small number is top / below. None where it is too great.
+    /// Writes the value of `x` to `tops`, for the small number `top / below`. Returns None on
+    /// overflow.
     fn put_top(&self, tops: &mut Vec<i64>, x: u32, top: i64, below: i64) -> Option<()> {
         let value = self.values.get(x as usize)?.value;
         let entry = tops.get_mut(x as usize)?;
@@ -393,7 +403,8 @@ impl Tableau {
         Some(())
     }
 
-    /// Puts the values of a row's variables into others, where the small number is top / below. None where one is too great.
+    /// Writes the values of a row's variables to `tops`, for the small number `top / below`.
+    /// Returns None on overflow.
     fn put_tops(
         &self,
         tops: &mut Vec<i64>,
@@ -411,8 +422,8 @@ impl Tableau {
         Some(())
     }
 
-    /// The tableau's point, at which these rows are met, which were looked at, with 0 for variables that don't occur in them. None where
-    /// a number is too great; want of memory is the one error.
+    /// Returns the tableau's point, which satisfies the rows `watched`, with 0 for variables that
+    /// do not occur in them, or None on overflow.
     pub(crate) fn point(
         &self,
         alloc: Global,
@@ -434,8 +445,8 @@ impl Tableau {
         Ok(Some(Spot { below, tops }))
     }
 
-    /// Exchanges a column for what another head stands for, whose line is given. False where a number is too great; want of memory is
-    /// the one error.
+    /// Pivots: `head`, whose line is `pivot`, replaces the column at `place`. Returns false on
+    /// overflow.
     pub(crate) fn exchange(
         &mut self,
         head: Head,

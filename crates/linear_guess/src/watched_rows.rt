@@ -1,8 +1,8 @@
-//! The rows of which a simplex makes use, as it looks at them. Nothing rests on it.
+//! The rows of a simplex search. Untrusted.
 use linear_rows::Row;
 
-/// A row: its index, and the variable of which it says that it isn't negative, where it says nothing else; where it does, a bit for each
-/// of its variables. Variables may share a bit; a row without variables has all bits.
+/// A row: its index; its variable if it is a sign row; otherwise a bit for each of its variables.
+/// Variables may share a bit, and a row without variables has all bits.
 #[derive(Clone, Copy)]
 pub(crate) struct Watched {
     pub(crate) index: usize,
@@ -10,7 +10,7 @@ pub(crate) struct Watched {
     pub(crate) bits: u64,
 }
 
-/// The variable of which a row says that it isn't negative, and nothing else.
+/// Returns the variable of a sign row.
 pub(crate) fn sign_of(row: &Row) -> Option<u32> {
     if row.strict || row.rest != 0 || row.terms.len() != 1 {
         return None;
@@ -19,13 +19,13 @@ pub(crate) fn sign_of(row: &Row) -> Option<u32> {
     if c == -1 { Some(x) } else { None }
 }
 
-/// A variable's bit.
+/// Returns the bit of a variable.
 pub(crate) fn bit_of(x: u32) -> u64 {
     let one: u64 = 1;
     one.wrapping_shl(x)
 }
 
-/// The bits of a row's variables.
+/// Returns the bits of a row's variables.
 fn bits_of(row: &Row) -> u64 {
     if row.terms.is_empty() {
         return u64::MAX;
@@ -38,7 +38,7 @@ fn bits_of(row: &Row) -> u64 {
 }
 
 impl Watched {
-    /// The row at an index.
+    /// Returns the row at an index.
     pub(crate) fn of(index: usize, row: &Row) -> Watched {
         match sign_of(row) {
             Some(x) => Watched {

@@ -1,4 +1,4 @@
--- Meant for the proofs of other crates. What a search remembers of rows it remembers of these rows and more.
+-- For the proofs of other crates: what a search records of rows, it records of these rows and more.
 use Rattle.std.proofs.Common.{List, ◌++◌, arith, subst, sym}
 use Rattle.std.proofs.lemmas.List.{take-append-le, length-append}
 use Rattle.std.proofs.lemmas.List.Elements.{All-weaker}
