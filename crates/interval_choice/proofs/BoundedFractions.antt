@@ -1,4 +1,4 @@
--- Fractions below 2^62 are compared exactly, and the tighter of two ends.
+-- The exact comparison of fractions below 2^62, and the tighter of two ends.
 use Rattle.std.proofs.Common.{◌≡◌, ℕ, ◌<◌, ◌^◌, refl, sym, ◌∙◌, ◌↔◌, subst, arith, Bool, true, false, cond, ◌&&◌, unsigned_abs}
 use Rattle.std.specs.Prelude.{ℤ, pos, ◌*ℤ◌, Some}
 use Rattle.std.specs.declared.cmp.Ordering.{Ordering}

@@ -1,4 +1,4 @@
--- The middle of two fractions below 2^62 is exact, and so is the whole number next to one.
+-- The middle of two fractions below 2^62 is exact, and so is the integer nearest to a fraction.
 use Rattle.std.proofs.Common.{◌≡◌, ℕ, ◌<◌, ◌≤◌, ◌*◌, ◌/◌, ◌^◌, refl, sym, ap, ◌∙◌, subst, arith, Bool, true, ◌&&◌, unsigned_abs}
 use Rattle.std.specs.Prelude.{ℤ, pos, ◌+ℤ◌, ◌*ℤ◌, ◌≤ℤ◌, Some}
 use Rattle.std.proofs.Math.IntN.{neg_ℤ}
@@ -69,7 +69,7 @@ pub the_middle : (x y : Rational) → fits x ≡ true → fits y ≡ true → ex
 unfolding exact_product middleʳ
 the_middle x y p q = let e = half_fits (x +ʳ y) (sum_num x y p q) (sum_den x y p q) in rw e refl
 
--- ---- Whole numbers
+-- ---- Integers
 
 pub whole_mono : (m n : ℤ) → m ≤ℤ n → whole m ≤ʳ whole n
 unfolding whole

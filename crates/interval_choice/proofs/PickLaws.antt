@@ -1,4 +1,4 @@
--- What is taken in an interval is its choice, and lies in it.
+-- The choice in an interval is right, and inside the interval.
 use Rattle.std.proofs.Common.{◌≡◌, ℕ, ◌<◌, ◌≤◌, ◌/◌, ◌^◌, refl, sym, ap, ◌∙◌, ◌↔◌, subst, arith, Bool, true, false, cond, unsigned_abs}
 use Rattle.std.specs.Prelude.{ℤ, pos, ◌+ℤ◌, ◌-ℤ◌, ◌*ℤ◌, ◌<ℤ◌, Option, Some, None, IsTrue}
 use Rattle.std.proofs.Math.Nat.{zero-lt-suc, eq-one_of_dvd-one, dvd-mul_right}
@@ -74,7 +74,7 @@ one_above x = less_from (λ h. one_zero (≤ʳ-+ʳ_cancel oneʳ zeroʳ x (subst 
 one_below : (x : Rational) → x -ʳ oneʳ <ʳ x
 one_below x = subst (λ y. x -ʳ oneʳ <ʳ y) (-ʳ-+ʳ x oneʳ) (one_above (x -ʳ oneʳ))
 
--- A choice that lies in its interval.
+-- A choice that is inside its interval.
 abbrev pub Chosen : Interval → Ty → Rational → Type 0
 Chosen i ty v = IsChoice i ty v × IsInside i v
 
@@ -142,7 +142,7 @@ picked_value i ty v p e h = subst (IsPicked i ty) (sym e) (go (fits v) refl)
     go true k = (h.0, h.1, k)
     go false k = (v, h.0, k)
 
--- ---- Whole numbers
+-- ---- Integers
 
 pub whole_den : (n : ℤ) → (whole n).den ≡ 1
 unfolding whole
@@ -156,7 +156,6 @@ whole_back : (x : Rational) → x.den ≡ 1 → whole x.num ≡ x
 unfolding whole
 whole_back x e = ap (λ d. ratio x.num d) (sym e) ∙ ratio_parts x
 
--- nothing between 0 and the near end
 above_zero : (near : End) (n : ℤ) → IsUpFrom near (whole n) → (IsUpFrom near zeroʳ → ⊥) → pos 0 <ℤ n
 above_zero near n h o = by_lt_z (pos 0) n (λ l. l) (λ l. absurd (o (up_further near (whole n) zeroʳ h (subst (λ y. whole n ≤ʳ y) whole-zero (whole_mono n (pos 0) l)))))
 
@@ -224,7 +223,7 @@ next_high_open High e n s k h c = record {
 }
 next_high_open Low e n s k h c = absurd (cc)
 
--- ---- Whether a value keeps to an end
+-- ---- The test whether a value satisfies an end
 
 pub keeps_equal : (side : Side) (e : End) (v : Rational) (p : Rational) (b : Bool) → p ≡ e.place → b ≡ e.inside → p ≡ v → IsTrue b ↔ IsWithin side e v
 keeps_equal side e v p b f g h = subst (λ c. IsTrue c ↔ IsWithin side e v) (sym g) (subst (λ u. IsTrue e.inside ↔ IsWithin side e u) (sym f ∙ h) (own side e.inside refl))
@@ -251,7 +250,7 @@ pub keeps_greater_high : (side : Side) (e : End) (v p : Rational) → side ≡ H
 keeps_greater_high High e v p s f h = (λ t. up_to_strong e v (subst (λ q. v <ʳ q) f h), λ w. refl)
 keeps_greater_high Low e v p s f h = absurd (cc)
 
--- ---- What the code takes
+-- ---- The choice of the program
 
 pub picked_middle : (side : Side) (near : End) (far : Option End) (f : End) (v : Rational) (p : Pick) → far ≡ Some f → v ≡ middleʳ near.place f.place → near.inside ≡ false → p ≡ narrow_pick v → (IsWithin side near zeroʳ → ⊥) → (w : Rational) → IsInside (sided side near far) w → IsPicked (sided side near far) Ty.UReal p
 picked_middle side near far f v p e h k m n w i = picked_value (sided side near far) Ty.UReal v p m (subst (λ o. Chosen (sided side near o) Ty.UReal v) (sym e) (subst (Chosen (sided side near (Some f)) Ty.UReal) (sym h) (real_middle side near f w k n (subst (λ o. IsInside (sided side near o) w) e i))))

@@ -1,4 +1,4 @@
--- Whole numbers as fractions.
+-- Integers as fractions.
 use Prim.Native.Nat.{suc}
 use Rattle.std.proofs.Common.{◌≡◌, ℕ, ◌<◌, refl, sym, Bool, true, false}
 use Rattle.std.specs.Prelude.{pos, negsuc}

@@ -1,4 +1,4 @@
-//! Fractions below 2^62, and some whole numbers as fractions.
+//! Fractions below 2^62, and integers as fractions.
 ghost use Rattle.std.specs.Prelude.{◌≡◌, ◌<◌, ◌^◌, true, unsigned_abs};
 ghost use Rattle.heyvl_num.specs.Rational.{halfʳ, middleʳ, ◌+ʳ◌, compareʳ};
 ghost use Rattle.heyvl_num.specs.Rounding.{whole};
@@ -8,17 +8,16 @@ ghost use Rattle.linear_rows.specs.Numbers.{fits as number_fits};
 use heyvl_num::Frac;
 use std::cmp::Ordering;
 
-/// 2^62, which the numbers of the greedy choice stay below.
+/// The limit 2^62 of the numbers of the greedy choice.
 const BOUND: u128 = 4_611_686_018_427_387_904;
 
-/// Whether the number is below 2^62 in absolute value.
 fn is_below(n: i128) -> bool
     ensures { result ≡ is_narrow n }
 {
     n.unsigned_abs() < BOUND
 }
 
-/// Whether the numerator and the denominator are below 2^62 in absolute value.
+/// Returns whether the numerator and the denominator are below 2^62 in absolute value.
 #[tactic(auto, unfolding(linear_rows::specs::Numbers::fits))]
 pub fn fits(x: &Frac) -> bool
     ensures { result ≡ number_fits x.now }
@@ -26,7 +25,7 @@ pub fn fits(x: &Frac) -> bool
     is_below(x.num()) && is_below(x.den())
 }
 
-/// The fraction n/1.
+/// Returns the fraction `n/1`.
 pub(crate) fn whole_number(n: i128) -> Frac
     requires { unsigned_abs n < 2 ^ 127 }
     ensures { result ≡ whole n }
@@ -34,14 +33,14 @@ pub(crate) fn whole_number(n: i128) -> Frac
     Frac::new(n, 1).unwrap()
 }
 
-/// The fraction n/1.
+/// Returns the fraction `n/1`.
 pub fn whole_of(n: i64) -> Frac
     ensures { result ≡ whole n }
 {
     whole_number(i128::from(n))
 }
 
-/// How the first compares with the second.
+/// Compares two fractions.
 pub fn order(x: &Frac, y: &Frac) -> Ordering
     requires left { unsigned_abs x.now.num < 2 ^ 63 }
     requires left_den { x.now.den < 2 ^ 63 }
@@ -66,7 +65,7 @@ fn half() -> Frac
     Frac::new(1, 2).unwrap()
 }
 
-/// The fraction halfway between two.
+/// Returns the middle of two fractions.
 pub(crate) fn middle(x: &Frac, y: &Frac) -> Frac
     requires left { number_fits x.now ≡ true }
     requires right { number_fits y.now ≡ true }

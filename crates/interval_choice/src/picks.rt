@@ -1,5 +1,6 @@
 //! The value that a variable takes between the ends of its interval.
-ghost use Rattle.std.specs.Prelude.{◌≡◌, ◌↔◌, ◌<◌, ◌^◌, ◌+ℤ◌, ◌-ℤ◌, pos, true, unsigned_abs, IfSome, MatchOption, IsTrue};
+ghost use Rattle.std.specs.Prelude.{◌≡◌, ◌↔◌, ◌<◌, ◌^◌, ◌+ℤ◌, ◌-ℤ◌, pos, true, unsigned_abs};
+ghost use Rattle.std.specs.Prelude.{IfSome, MatchOption, IsTrue};
 ghost use Rattle.heylo_formula.specs.declared.types.Ty.{Ty as TyValue};
 ghost use Rattle.heyvl_num.specs.Rational.{Rational, zeroʳ};
 ghost use Rattle.linear_rows.specs.Numbers.{fits as number_fits};
@@ -7,7 +8,8 @@ ghost use Rattle.linear_rows.specs.VariableTypes.{is_numeric, is_integral};
 ghost use Rattle.linear_rows.specs.GreedyPoint.{IsInside};
 ghost use Rattle.interval_choice.specs.Sides.{IsWithin, IsPast};
 ghost use Rattle.interval_choice.specs.declared.sides.Side.{Side as SideValue};
-ghost use Rattle.interval_choice.specs.Picks.{IsNextWhole, IsPicked, sided, across, between, narrow_pick, broken_pick, past_place};
+ghost use Rattle.interval_choice.specs.Picks.{IsNextWhole, IsPicked, sided, across, between};
+ghost use Rattle.interval_choice.specs.Picks.{narrow_pick, broken_pick, past_place};
 
 use crate::fractions::{fits, middle, order, sum, whole_number, whole_of};
 use crate::sides::{End, Side};
@@ -15,8 +17,8 @@ use heylo_formula::Ty;
 use heyvl_num::Frac;
 use std::cmp::Ordering;
 
-/// What is taken in an interval: a value; or none, since it holds no whole number between these two ends; or none, since the
-/// value is too great.
+/// The choice in an interval: a value; or none, because there is no integer between these two ends;
+/// or none, because the value overflows.
 #[derive(Clone, Copy)]
 pub enum Pick {
     Value(Frac),
@@ -24,7 +26,7 @@ pub enum Pick {
     Great,
 }
 
-/// Whether a value keeps to an end.
+/// Returns whether the value `v` satisfies the end `e`.
 fn keeps(side: Side, e: End, v: &Frac) -> bool
     requires place { number_fits e.place ≡ true }
     requires num { unsigned_abs v.now.num < 2 ^ 63 }
@@ -54,7 +56,7 @@ fn one_less(n: i128) -> i128
     n - 1
 }
 
-/// The whole number next to an end, among those that keep to it.
+/// Returns the integer nearest to an end, among those that satisfy it.
 fn next_whole(side: Side, near: End) -> i128
     requires { number_fits near.place ≡ true }
     ensures { IsNextWhole side near result }
@@ -76,7 +78,7 @@ fn opposite(side: Side) -> Side
     }
 }
 
-/// The value, unless it is too great.
+/// Returns the choice `v`, unless it overflows.
 fn narrowed(v: Frac) -> Pick
     ensures { result ≡ narrow_pick v }
 {
@@ -87,7 +89,7 @@ fn narrowed(v: Frac) -> Pick
     }
 }
 
-/// The ends in their order.
+/// Returns the break between two ends, the low end first.
 fn breaks(side: Side, near: End, far: End) -> Pick
     ensures { result ≡ broken_pick side near far }
 {
@@ -97,11 +99,13 @@ fn breaks(side: Side, near: End, far: End) -> Pick
     }
 }
 
-/// What a variable of whole numbers takes, where 0 doesn't keep to the near end: the whole number next to that end.
+/// Returns the choice for an integer variable, if 0 does not satisfy the end `near`: the integer
+/// nearest to this end.
 fn whole_pick(side: Side, near: End, far: Option<End>) -> Pick
     requires near { number_fits near.place ≡ true }
     requires far { IfSome far (λ e. number_fits e.place ≡ true) }
-    ensures { (ty : TyValue) → (is_integral ty ≡ true) → (IsWithin side near zeroʳ → ⊥) → IsPicked (sided side near far) ty result }
+    ensures { (ty : TyValue) → (is_integral ty ≡ true) → (IsWithin side near zeroʳ → ⊥)
+        → IsPicked (sided side near far) ty result }
 {
     let v = whole_number(next_whole(side, near));
     if let Some(end) = far {
@@ -112,7 +116,7 @@ fn whole_pick(side: Side, near: End, far: Option<End>) -> Pick
     narrowed(v)
 }
 
-/// 1 past an end.
+/// Returns the place 1 beyond an end.
 fn past(side: Side, place: &Frac) -> Frac
     requires { number_fits place.now ≡ true }
     ensures { result ≡ past_place side place.now }
@@ -123,12 +127,13 @@ fn past(side: Side, place: &Frac) -> Frac
     }
 }
 
-/// What a variable of fractions takes, where 0 doesn't keep to the near end: this end where it is inside, else the middle, else
-/// 1 past the end.
+/// Returns the choice for a `UReal`, if 0 does not satisfy the end `near`: this end if it is
+/// inside, otherwise the middle of both ends, or 1 beyond the end if it is the only one.
 fn real_pick(side: Side, near: End, far: Option<End>) -> Pick
     requires near { number_fits near.place ≡ true }
     requires far { IfSome far (λ e. number_fits e.place ≡ true) }
-    ensures { (IsWithin side near zeroʳ → ⊥) → (w : Rational) → IsInside (sided side near far) w → IsPicked (sided side near far) TyValue.UReal result }
+    ensures { (IsWithin side near zeroʳ → ⊥) → (w : Rational) → IsInside (sided side near far) w
+        → IsPicked (sided side near far) TyValue.UReal result }
 {
     if near.inside {
         return Pick::Value(near.place);
@@ -139,11 +144,12 @@ fn real_pick(side: Side, near: End, far: Option<End>) -> Pick
     }
 }
 
-/// What a variable takes, where 0 doesn't keep to the near end.
+/// Returns the choice for a variable, if 0 does not satisfy the end `near`.
 fn near_pick(side: Side, near: End, far: Option<End>, ty: Ty) -> Pick
     requires near { number_fits near.place ≡ true }
     requires far { IfSome far (λ e. number_fits e.place ≡ true) }
-    ensures { is_numeric ty ≡ true → (IsWithin side near zeroʳ → ⊥) → (w : Rational) → IsInside (sided side near far) w → IsPicked (sided side near far) ty result }
+    ensures { is_numeric ty ≡ true → (IsWithin side near zeroʳ → ⊥) → (w : Rational)
+        → IsInside (sided side near far) w → IsPicked (sided side near far) ty result }
 {
     match ty {
         Ty::Int => whole_pick(side, near, far),
@@ -153,11 +159,13 @@ fn near_pick(side: Side, near: End, far: Option<End>, ty: Ty) -> Pick
     }
 }
 
-/// What a variable takes, where 0 doesn't keep to this end.
+/// Returns the choice for a variable, if 0 does not satisfy the end `end`.
 fn taken_near(side: Side, end: &Option<End>, far: &Option<End>, ty: Ty) -> Option<Pick>
     requires end { IfSome end.now (λ e. number_fits e.place ≡ true) }
     requires far { IfSome far.now (λ e. number_fits e.place ≡ true) }
-    ensures { MatchOption result (IsPast side end.now zeroʳ) (λ p. is_numeric ty ≡ true → (w : Rational) → IsInside (between side end.now far.now) w → IsPicked (between side end.now far.now) ty p) }
+    ensures { MatchOption result (IsPast side end.now zeroʳ) (λ p. is_numeric ty ≡ true
+        → (w : Rational) → IsInside (between side end.now far.now) w
+        → IsPicked (between side end.now far.now) ty p) }
 {
     match end {
         None => None,
@@ -171,11 +179,13 @@ fn taken_near(side: Side, end: &Option<End>, far: &Option<End>, ty: Ty) -> Optio
     }
 }
 
-/// What a variable takes between two ends.
+/// Returns the choice for a variable between two ends.
 pub fn taken_between(low: &Option<End>, high: &Option<End>, ty: Ty) -> Pick
     requires low { IfSome low.now (λ e. number_fits e.place ≡ true) }
     requires high { IfSome high.now (λ e. number_fits e.place ≡ true) }
-    ensures { is_numeric ty ≡ true → (w : Rational) → IsInside (between SideValue.Low low.now high.now) w → IsPicked (between SideValue.Low low.now high.now) ty result }
+    ensures { is_numeric ty ≡ true → (w : Rational)
+        → IsInside (between SideValue.Low low.now high.now) w
+        → IsPicked (between SideValue.Low low.now high.now) ty result }
 {
     match taken_near(Side::Low, low, high, ty) {
         Some(taken) => taken,

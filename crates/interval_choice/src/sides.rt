@@ -5,14 +5,14 @@ ghost use Rattle.linear_rows.specs.GreedyPoint.{End as EndValue};
 use heyvl_num::Frac;
 use std::marker::Model;
 
-/// The lower or the upper end of an interval.
+/// A side of an interval: its lower or its upper end.
 #[derive(Clone, Copy)]
 pub enum Side {
     Low,
     High,
 }
 
-/// An end of an interval, and whether it belongs to it.
+/// An end of an interval: the place where it is, and whether the place is inside the interval.
 #[derive(Clone, Copy)]
 pub struct End {
     pub place: Frac,

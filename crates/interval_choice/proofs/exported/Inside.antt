@@ -1,2 +1,2 @@
--- Meant for the proofs of other crates. Values inside an interval.
+-- For the proofs of other crates: values inside an interval.
 pub use Rattle.interval_choice.proofs.Inside.{inside_past}

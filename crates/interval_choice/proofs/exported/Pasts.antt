@@ -1,2 +1,2 @@
--- Meant for the proofs of other crates. 1 past an end.
+-- For the proofs of other crates: the place 1 beyond an end.
 pub use Rattle.interval_choice.proofs.Pasts.{zero_fits}
