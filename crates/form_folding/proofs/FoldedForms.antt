@@ -1,4 +1,4 @@
--- Nodes over parts to which those of a form are folded.
+-- Nodes over the folded parts of a form.
 use Rattle.std.proofs.Common.{◌≡◌, ℕ, List, Some, true, sym, ap, ap₂, ◌∙◌, subst, Global}
 use Rattle.heyvl_num.specs.Rational.{Rational, ◌+ʳ◌}
 use Rattle.heyvl_num.specs.Value.Value.{finite}
@@ -31,7 +31,7 @@ pub folded_longer : (old new : List Node) (r : F.Folded) (f : Form) → Begins o
 folded_longer old new (F.TheVariants.Number x) f b h = h
 folded_longer old new (F.TheVariants.Node i) f b h = has_longer old new i f b h
 
--- ---- What stands
+-- ---- Nodes with folded trees
 
 pub form_has : (ns : List Node) (i : ℕ) (f : Form) → Stands ns i (Tree.formula f) → HasFolded ns i f
 form_has ns i f s = record { form = f; stands = s; folds = FoldsTo.same f }
@@ -39,14 +39,13 @@ form_has ns i f s = record { form = f; stands = s; folds = FoldsTo.same f }
 pub cond_has : (ns : List Node) (i : ℕ) (g : Cond) → Stands ns i (Tree.condition g) → HasFoldedTest ns i g
 cond_has ns i g s = record { cond = g; stands = s; folds = TestFoldsTo.same_test g }
 
--- a node that is joined
 pub joined_has : (old new : List Node) (n : Node) (i : ℕ) (f : Form) → IsFoldedNode old n f → ((t : Tree) → assembled (tree_at old) n ≡ Some t → Stands new i t) → HasFolded new i f
 joined_has old new n i f h k = record { form = h.form; stands = k (Tree.formula h.form) h.node.gives; folds = h.folds }
 
 pub fits_for : (ns : List Node) (n : Node) (f : Form) → IsFoldedNode ns n f → IsFitting ns n
 fits_for ns n f h = fits ns n (Tree.formula h.form) h.node
 
--- ---- Nodes over such parts
+-- ---- Nodes over folded parts
 
 pub number_for : (ns : List Node) (x : Rational) (f : Form) → FoldsTo f (Form.number (finite x)) → IsFoldedNode ns (Node.Const (Fin x)) f
 number_for ns x f h = record { form = Form.number (finite x); node = const_node ns (Fin x); folds = h }
@@ -89,7 +88,7 @@ number_fits ns x = fits ns (Node.Const (Fin x)) (Tree.formula (Form.number (fini
 pub sum_folded : (x y z : Rational) (f g : Form) → numbers.fits x ≡ true → numbers.fits y ≡ true → z ≡ x +ʳ y → FoldsTo f (Form.number (finite x)) → FoldsTo g (Form.number (finite y)) → FoldsTo (Form.sum f g) (Form.number (finite z))
 sum_folded x y z f g h k m e d = subst (λ z. FoldsTo (Form.sum f g) (Form.number (finite z))) (sym m) (FoldsTo.numbers f g x y e d h k)
 
--- ---- The same of the forms that the program holds
+-- ---- The forms of the program
 
 pub scale_is : (ns : List Node) (f x : P.Form) (w : Rational) (a : Box P.Form Global) (i : ℕ) → f ≡ P.TheVariants.Scale w a → x ≡ a.value → HasFolded ns i (form_of x) → IsFoldedNode ns (Node.Scale w i) (form_of f)
 scale_is ns f x w a i e d h = subst (IsFoldedNode ns (Node.Scale w i)) (ap (λ y. Form.scale w (form_of y)) d ∙ sym (scale_form w a) ∙ sym (ap form_of e)) (scale_for ns w i (form_of x) h)

@@ -1,4 +1,4 @@
-//! Forms with their sums of numbers folded.
+//! Forms in which sums of numbers are folded.
 
 ghost use Rattle.std.specs.Prelude.{IfOk, IfSome, List, OnOk};
 ghost use Rattle.heylo_formula.specs.PlainTrees.{cond_of, form_of};
@@ -7,7 +7,8 @@ ghost use Rattle.heylo_graph.specs.Nodes.{Begins, IsFitting};
 ghost use Rattle.heylo_graph.specs.declared.nodes.Node.{Node as NodeValue};
 ghost use Rattle.form_folding.specs.declared.folding.Folded.TheVariants.{Number};
 ghost use Rattle.form_folding.specs.Foldings.{HasFolded};
-ghost use Rattle.form_folding.specs.internal.FoldedNodes.{FoldsSome, HasFoldedTest, IsFolded, IsFoldedNode};
+ghost use Rattle.form_folding.specs.internal.FoldedNodes.{FoldsSome, HasFoldedTest, IsFolded};
+ghost use Rattle.form_folding.specs.internal.FoldedNodes.{IsFoldedNode};
 
 use heylo_formula::{Cond, Form};
 use heylo_graph::{Graph, Node, NodeId};
@@ -15,7 +16,7 @@ use heyvl_num::{Ext, Frac};
 use linear_values::numbers::{fits, sum};
 use std::alloc::AllocError;
 
-/// What a form is folded to.
+/// The result of folding a form.
 #[derive(Clone, Copy)]
 enum Folded {
     /// A number.
@@ -24,9 +25,11 @@ enum Folded {
     Node(NodeId),
 }
 
-/// Puts a form into the graph, with sums of two numbers below 2^62 worked out, so that parts that differ in such sums alone are one node,
-/// and gives its number. Sums, multiples, brackets and choices are looked into, as draws and assignments make them, and the comparisons
-/// of these; all else is put as it is. Want of memory is the one error.
+/// Adds `form` to `graph`, with sums of two numbers below 2^62 computed, and returns its node. So
+/// parts that differ only in such sums share a node.
+///
+/// Sums, multiples, brackets and choices, and the comparisons in these, are searched for such sums,
+/// because flips and assignments produce them. All other forms are added as they are.
 #[cycle(folding)]
 pub fn put_folded(graph: &mut Graph, form: &Form) -> Result<NodeId, AllocError>
     ensures begins { OnOk result (Begins graph.old graph.new) }
@@ -36,7 +39,7 @@ pub fn put_folded(graph: &mut Graph, form: &Form) -> Result<NodeId, AllocError>
     node_of(graph, found)
 }
 
-/// What the form is folded to.
+/// Folds `form`.
 #[cycle(folding)]
 fn fold(graph: &mut Graph, form: &Form) -> Result<Folded, AllocError>
     ensures begins { OnOk result (Begins graph.old graph.new) }
@@ -65,18 +68,19 @@ fn fold(graph: &mut Graph, form: &Form) -> Result<Folded, AllocError>
     }
 }
 
-/// What the sum of two forms is folded to.
+/// Folds the sum of `a` and `b`.
 #[cycle(folding)]
 fn folded_sum(graph: &mut Graph, a: &Form, b: &Form) -> Result<Folded, AllocError>
     ensures begins { OnOk result (Begins graph.old graph.new) }
-    ensures folded { IfOk result (λ r. IsFolded graph.new r (PlainForm.sum (form_of a.now) (form_of b.now))) }
+    ensures folded { IfOk result
+        (λ r. IsFolded graph.new r (PlainForm.sum (form_of a.now) (form_of b.now))) }
 {
     let left = fold(graph, a)?;
     let right = fold(graph, b)?;
     join_sum(graph, left, right)
 }
 
-/// The nodes of what two forms are folded to.
+/// Folds `a` and `b`, and returns their nodes.
 #[cycle(folding)]
 fn put_both(graph: &mut Graph, a: &Form, b: &Form) -> Result<(NodeId, NodeId), AllocError>
     ensures begins { OnOk result (Begins graph.old graph.new) }
@@ -88,7 +92,7 @@ fn put_both(graph: &mut Graph, a: &Form, b: &Form) -> Result<(NodeId, NodeId), A
     Ok((first, second))
 }
 
-/// The node of what the condition is folded to.
+/// Folds a condition, and returns its node.
 #[cycle(folding)]
 fn put_test(graph: &mut Graph, cond: &Cond) -> Result<NodeId, AllocError>
     ensures begins { OnOk result (Begins graph.old graph.new) }
@@ -107,10 +111,11 @@ fn put_test(graph: &mut Graph, cond: &Cond) -> Result<NodeId, AllocError>
     }
 }
 
-/// The node of what a form is folded to.
+/// Returns the node of a folded form.
 fn node_of(graph: &mut Graph, found: Folded) -> Result<NodeId, AllocError>
     ensures begins { OnOk result (Begins graph.old graph.new) }
-    ensures folded { (f : PlainForm) → IsFolded graph.old found f → IfOk result (λ id. HasFolded graph.new id f) }
+    ensures folded { (f : PlainForm) → IsFolded graph.old found f
+        → IfOk result (λ id. HasFolded graph.new id f) }
 {
     match found {
         Folded::Number(x) => graph.join(Node::Const(Ext::Fin(x))),
@@ -118,12 +123,13 @@ fn node_of(graph: &mut Graph, found: Folded) -> Result<NodeId, AllocError>
     }
 }
 
-/// What the sum of two forms is folded to, by what these are.
+/// Folds the sum of two folded forms.
 fn join_sum(graph: &mut Graph, left: Folded, right: Folded) -> Result<Folded, AllocError>
     requires left { FoldsSome graph.old left }
     requires right { FoldsSome graph.old right }
     ensures begins { OnOk result (Begins graph.old graph.new) }
-    ensures folded { (f g : PlainForm) → IsFolded graph.old left f → IsFolded graph.old right g → IfOk result (λ r. IsFolded graph.new r (PlainForm.sum f g)) }
+    ensures folded { (f g : PlainForm) → IsFolded graph.old left f → IsFolded graph.old right g
+        → IfOk result (λ r. IsFolded graph.new r (PlainForm.sum f g)) }
 {
     if let Some(x) = sum_of(&left, &right) {
         return Ok(Folded::Number(x));
@@ -133,9 +139,11 @@ fn join_sum(graph: &mut Graph, left: Folded, right: Folded) -> Result<Folded, Al
     join_for(graph, Node::Sum(first, second))
 }
 
-/// The sum, where both are numbers below 2^62.
+/// Returns the sum of two numbers below 2^62.
 fn sum_of(left: &Folded, right: &Folded) -> Option<Frac>
-    ensures { (ns : List NodeValue) (f g : PlainForm) → IsFolded ns left.now f → IsFolded ns right.now g → IfSome result (λ x. IsFolded ns (Number x) (PlainForm.sum f g)) }
+    ensures { (ns : List NodeValue) (f g : PlainForm) → IsFolded ns left.now f
+        → IsFolded ns right.now g
+        → IfSome result (λ x. IsFolded ns (Number x) (PlainForm.sum f g)) }
 {
     match (left, right) {
         (Folded::Number(x), Folded::Number(y)) if fits(x) && fits(y) => Some(sum(x, y)),
@@ -143,11 +151,12 @@ fn sum_of(left: &Folded, right: &Folded) -> Option<Frac>
     }
 }
 
-/// The node, joined.
+/// Adds `node` to the graph.
 fn join_for(graph: &mut Graph, node: Node) -> Result<Folded, AllocError>
     requires { IsFitting graph.old node }
     ensures begins { OnOk result (Begins graph.old graph.new) }
-    ensures folded { (f : PlainForm) → IsFoldedNode graph.old node f → IfOk result (λ r. IsFolded graph.new r f) }
+    ensures folded { (f : PlainForm) → IsFoldedNode graph.old node f
+        → IfOk result (λ r. IsFolded graph.new r f) }
 {
     let id = graph.join(node)?;
     Ok(Folded::Node(id))

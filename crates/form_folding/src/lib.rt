@@ -1,4 +1,5 @@
-//! Forms that are put into a graph with their sums of numbers folded.
+//! Forms that are added to a graph with their sums of numbers folded. `AllocError` means that
+//! memory ran out.
 #![tactic(auto)]
 
 mod folding;

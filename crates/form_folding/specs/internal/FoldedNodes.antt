@@ -1,4 +1,4 @@
--- What is made of a form on the way into a graph.
+-- Folded forms on the way into a graph.
 use Rattle.std.specs.Prelude.{ℕ, List}
 use Rattle.heyvl_num.specs.Value.Value.{finite}
 use Rattle.heylo_formula.specs.Formula.{Form, Cond}
@@ -8,24 +8,24 @@ use Rattle.heylo_graph.specs.declared.nodes.Node.{Node}
 use Rattle.form_folding.specs.Foldings.{FoldsTo, HasFolded, TestFoldsTo}
 use Rattle.form_folding.specs.declared.folding.Folded as F
 
--- The node with this number has a tree to which the condition is folded.
+-- `HasFoldedTest ns i g`: the node with the number `i` has a tree to which the condition `g` folds.
 pub record HasFoldedTest (ns : List Node) (i : ℕ) (g : Cond) : Type 0 where
   pub cond : Cond
   pub stands : Stands ns i (Tree.condition cond)
   pub folds : TestFoldsTo g cond
 
--- Over what stands there, the node has a tree to which the form is folded.
+-- `IsFoldedNode ns n f`: over the nodes `ns`, the node `n` has a tree to which the form `f` folds.
 pub record IsFoldedNode (ns : List Node) (n : Node) (f : Form) : Type 0 where
   pub form : Form
   pub node : IsNodeOf ns n (Tree.formula form)
   pub folds : FoldsTo f form
 
--- The form is folded to this number, or to the tree of this node.
+-- `IsFolded ns r f`: the form `f` folds to the number, or to the tree of the node, in `r`.
 abbrev pub IsFolded : List Node → F.Folded → Form → Type 0
 IsFolded ns (F.TheVariants.Number x) f = FoldsTo f (Form.number (finite x))
 IsFolded ns (F.TheVariants.Node i) f = HasFolded ns i f
 
--- Some form is folded to it.
+-- `FoldsSome ns r`: some form folds to `r`.
 pub record FoldsSome (ns : List Node) (r : F.Folded) : Type 0 where
   pub form : Form
   pub folded : IsFolded ns r form
