@@ -1,4 +1,4 @@
-//! How an evaluation of a goal begins, and how it goes on along a path.
+//! The start of an evaluation of a goal, and its continuation along a path.
 
 ghost use Rattle.std.specs.Prelude.{[], IfOk};
 ghost use Rattle.heylo_formula.specs.Goals.{goal_of};
@@ -16,7 +16,8 @@ use crate::steps::advance;
 use heylo_formula::Goal;
 use std::alloc::{AllocError, Global};
 
-/// The evaluation before the first question: the stated form, and then the found one. Want of memory is the one error.
+/// Returns the place before the first comparison. The stated bound is evaluated first, then the
+/// computed form.
 pub fn begin(alloc: Global, goal: &Goal) -> Result<Place, AllocError>
     ensures { IfOk result (λ p. IsOn (goal_of goal.now) [] p) }
 {
@@ -27,8 +28,8 @@ pub fn begin(alloc: Global, goal: &Goal) -> Result<Place, AllocError>
     Ok(Place { evaluation })
 }
 
-/// What stands at the end of a path, evaluated on from a place on it. The place that is reached is the one where the next
-/// question stands, or the end, or where a number is too large. Want of memory is the one error.
+/// Continues the evaluation from `place` to the end of `path`, and returns what is there: the next
+/// comparison, the values of both forms, or an overflow.
 pub fn go_on(
     alloc: Global,
     goal: &Goal,
@@ -37,14 +38,15 @@ pub fn go_on(
 ) -> Result<Reached, AllocError>
     requires path { IsPath (goal_of goal.now) (path_of path.now) }
     requires on { IsOn (goal_of goal.now) (path_of path.now) place.now }
-    ensures asked { IfOk result (λ r. Answers r.ask (end_at (goal_of goal.now) (path_of path.now))) }
+    ensures asked { IfOk result
+        (λ r. Answers r.ask (end_at (goal_of goal.now) (path_of path.now))) }
     ensures on { IfOk result (λ r. IsOn (goal_of goal.now) (path_of path.now) r.place) }
 {
     let evaluation = place.evaluation.clone()?;
     go_on_from(alloc, goal, Place { evaluation }, path)
 }
 
-/// The same, where the evaluation isn't needed at the first place any more.
+/// Continues the evaluation as `go_on` does, but consumes `place`.
 pub fn go_on_from(
     alloc: Global,
     goal: &Goal,
@@ -53,7 +55,8 @@ pub fn go_on_from(
 ) -> Result<Reached, AllocError>
     requires path { IsPath (goal_of goal.now) (path_of path.now) }
     requires on { IsOn (goal_of goal.now) (path_of path.now) place }
-    ensures asked { IfOk result (λ r. Answers r.ask (end_at (goal_of goal.now) (path_of path.now))) }
+    ensures asked { IfOk result
+        (λ r. Answers r.ask (end_at (goal_of goal.now) (path_of path.now))) }
     ensures on { IfOk result (λ r. IsOn (goal_of goal.now) (path_of path.now) r.place) }
 {
     let Place { mut evaluation } = place;

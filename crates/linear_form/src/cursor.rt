@@ -1,4 +1,4 @@
-//! An evaluation along a path: where it stands, and why it stops.
+//! Results of an evaluation along a path, and the reasons why it stops.
 
 ghost use Rattle.std.specs.Prelude.{◌≡◌, ◌+◌, alloc_error, drop, true, false, IfOk};
 ghost use Rattle.linear_form.specs.Query.Query.{ask, done};
@@ -12,24 +12,24 @@ use linear_values::Lin;
 use std::alloc::{AllocError, AllocFailed, Global};
 use std::rc::Rc;
 
-/// A linear value, or None for infinity, and the place where the path goes on.
+/// A linear value, or None for infinity, and the index of the next answer of the path.
 #[derive(Drop)]
 pub struct Found {
     pub value: Option<Lin>,
     pub next: usize,
 }
 
-/// A truth value, and the place where the path goes on.
+/// A truth value, and the index of the next answer of the path.
 #[derive(Clone, Copy)]
 pub struct Tested {
     pub holds: bool,
     pub next: usize,
 }
 
-/// Why an evaluation goes no further. It is small, since each operator hands it on.
+/// The reason why an evaluation stops. It is small, because each operator passes it on.
 #[derive(Drop)]
 pub enum Stop {
-    /// The path doesn't answer this question.
+    /// The path has no answer to this comparison.
     Decide(Rc<Atom, Global>),
     /// A number reaches 2^62.
     Bits,
@@ -56,9 +56,11 @@ impl<T: Drop> From<AllocFailed<T>> for Stop {
     }
 }
 
-/// The answer of the path to a question, or the question.
+/// Returns the answer of `path` at index `at`, or `atom` if the path has ended.
 pub fn answered(atom: &Rc<Atom, Global>, path: &[Taken], at: usize) -> Result<Tested, Stop>
-    ensures { GivesTruth result (turned (drop at (path_of path.now)) (atom_of atom.now.value) (Evaluation.value true (at + 1)) (Evaluation.value false (at + 1))) }
+    ensures { GivesTruth result
+        (turned (drop at (path_of path.now)) (atom_of atom.now.value)
+        (Evaluation.value true (at + 1)) (Evaluation.value false (at + 1))) }
 {
     if at < path.len() {
         Ok(Tested {
@@ -70,9 +72,10 @@ pub fn answered(atom: &Rc<Atom, Global>, path: &[Taken], at: usize) -> Result<Te
     }
 }
 
-/// The answer to a question: known where the path has decided a Boolean before this place, else the next one of the path.
+/// Returns the answer to `atom`. A Boolean that the first `at` answers decide is not asked again.
 pub fn answer(atom: &Rc<Atom, Global>, path: &[Taken], at: usize) -> Result<Tested, Stop>
-    ensures { GivesTruth result (along (path_of path.now) (ask (atom_of atom.now.value) (done true) (done false)) at) }
+    ensures { GivesTruth result
+        (along (path_of path.now) (ask (atom_of atom.now.value) (done true) (done false)) at) }
 {
     match &**atom {
         Atom::Truth(x) => match known_truth(*x, path, at) {

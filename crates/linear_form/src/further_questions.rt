@@ -1,4 +1,4 @@
-//! Evaluations that surely ask a further question.
+//! Evaluations that surely ask a further comparison.
 
 ghost use Rattle.std.specs.Prelude.{◌≡◌, ◌++◌, ◌∷◌, [], List, length, IsTrue};
 ghost use Rattle.std.specs.List.{list_any};
@@ -13,10 +13,12 @@ use crate::parts::Work;
 use crate::paths::is_comparison;
 use crate::places::{Evaluation, Focus, Frame, Place};
 
-/// Whether the evaluation stands behind as many answers, and surely asks twice from there on: so it isn't at its end once its
-/// question is answered. It may be told no of any evaluation.
+/// Returns true only if the evaluation has used `count` answers and surely asks two more
+/// comparisons of numbers, so that the path of these answers is not at an end after one more.
 pub fn asks_on(place: &Place, count: usize) -> bool
-    ensures { (g : PlainGoal) (ps : List PlainTaken) (t : PlainTaken) → IsTrue result → length ps ≡ count → IsOn g ps place.now → IsPath g (ps ++ (t ∷ [])) → IsNoEnd g (ps ++ (t ∷ [])) }
+    ensures { (g : PlainGoal) (ps : List PlainTaken) (t : PlainTaken) → IsTrue result
+        → length ps ≡ count → IsOn g ps place.now → IsPath g (ps ++ (t ∷ []))
+        → IsNoEnd g (ps ++ (t ∷ [])) }
 {
     let evaluation: &Evaluation = &place.evaluation;
     let Focus::Part(part) = &evaluation.focus else {
@@ -30,14 +32,14 @@ pub fn asks_on(place: &Place, count: usize) -> bool
         && (frames_ask(&evaluation.frames) || yes.asks && no.asks)
 }
 
-/// Whether a part that waits surely asks a comparison once its outcome is there.
+/// Returns whether a waiting part surely asks a comparison of numbers after it gets the result that
+/// it waits for.
 fn frames_ask(frames: &[Frame]) -> bool
     ensures { result ≡ list_any frame_asks frames.now }
 {
     frames.iter().any(|frame| frame_asks(frame))
 }
 
-/// The same of one of them.
 fn frame_asks(frame: &Frame) -> bool
     ensures { result ≡ frame_asks frame.now }
 {

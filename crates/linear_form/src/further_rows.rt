@@ -1,4 +1,4 @@
-//! The rows of claims, one after the other.
+//! Adding the rows of claims to a list of rows.
 
 ghost use Rattle.std.specs.Prelude.{[], ◌∷◌, IfOk, not, true, false};
 ghost use Rattle.linear_values.specs.Lin.{AreNormal};
@@ -20,7 +20,7 @@ use linear_values::numbers::minus_one;
 use linear_values::{Lin, tightened};
 use std::alloc::{AllocError, Global};
 
-/// The rows, and after them that of a claim: the linear value is at most 0 or, where strict, below 0.
+/// Returns `rows` and the row of the claim `left <= 0` or, if `strict`, `left < 0`.
 pub(crate) fn with_claim(
     alloc: Global,
     types: &[Ty],
@@ -29,7 +29,8 @@ pub(crate) fn with_claim(
     strict: bool,
 ) -> Result<RowList, AllocError>
     requires { AreNormal (lin_of left.now).terms }
-    ensures { IfOk result (λ r. Lists r (rows_with (types_in types.now) rows.items (claim (lin_of left.now) strict ∷ []))) }
+    ensures { IfOk result (λ r.
+        Lists r (rows_with (types_in types.now) rows.items (claim (lin_of left.now) strict ∷ []))) }
 {
     match tightened(alloc, types, left, strict)? {
         None => Ok(RowList::Bits),
@@ -40,7 +41,7 @@ pub(crate) fn with_claim(
     }
 }
 
-/// The rows, and after them that of the negated value.
+/// Returns `rows` and the row of the claim `-left <= 0` or, if `strict`, `-left < 0`.
 pub(crate) fn with_negated(
     alloc: Global,
     types: &[Ty],
@@ -49,7 +50,9 @@ pub(crate) fn with_negated(
     strict: bool,
 ) -> Result<RowList, AllocError>
     requires { AreNormal (lin_of left.now).terms }
-    ensures { IfOk result (λ r. Lists r (rows_with (types_in types.now) rows.items (claim (negated (lin_of left.now)) strict ∷ []))) }
+    ensures { IfOk result (λ r.
+        Lists r (rows_with (types_in types.now) rows.items
+        (claim (negated (lin_of left.now)) strict ∷ []))) }
 {
     if !is_sized(left) {
         return Ok(RowList::Bits);
@@ -58,7 +61,7 @@ pub(crate) fn with_negated(
     with_claim(alloc, types, rows, &down, strict)
 }
 
-/// The rows, and after them what an answer says: the comparison, or its denial. The truth of a variable has no row.
+/// Returns `rows` and the row of `atom`, or of its negation if `held` is false; a Boolean has none.
 pub(crate) fn with_answer(
     alloc: Global,
     types: &[Ty],
@@ -67,7 +70,9 @@ pub(crate) fn with_answer(
     held: bool,
 ) -> Result<RowList, AllocError>
     requires { IsNormalAtom (atom_of atom.now) }
-    ensures { IfOk result (λ r. Lists r (rows_with (types_in types.now) rows.items (answer_claims (atom_of atom.now) held))) }
+    ensures { IfOk result (λ r.
+        Lists r (rows_with (types_in types.now) rows.items
+        (answer_claims (atom_of atom.now) held))) }
 {
     match atom {
         Atom::Truth(_) => Ok(RowList::Rows(rows)),
@@ -81,7 +86,7 @@ pub(crate) fn with_answer(
     }
 }
 
-/// The rows, and after them that the first value is below the second. None stands for infinity, which is below nothing.
+/// Returns `rows` and the row of `x < y`. None is infinity, which is below nothing.
 pub(crate) fn with_below(
     alloc: Global,
     types: &[Ty],
@@ -91,7 +96,9 @@ pub(crate) fn with_below(
 ) -> Result<RowList, AllocError>
     requires left { IsKeptValue (linear_of x.now) }
     requires right { IsKeptValue (linear_of y.now) }
-    ensures { IfOk result (λ r. Lists r (rows_with (types_in types.now) rows.items (listed (below_claim (linear_of x.now) (linear_of y.now))))) }
+    ensures { IfOk result (λ r.
+        Lists r (rows_with (types_in types.now) rows.items
+        (listed (below_claim (linear_of x.now) (linear_of y.now))))) }
 {
     match x {
         None => Ok(RowList::Rows(rows)),

@@ -4,13 +4,15 @@ ghost use Rattle.std.specs.Prelude.{◌≡◌, ◌&&◌};
 ghost use Rattle.heylo_formula.specs.PlainTrees.{form_of, cond_of};
 ghost use Rattle.heylo_formula.specs.Goals.{goal_of};
 ghost use Rattle.heylo_formula.specs.NumericVariables.{has_variable};
-ghost use Rattle.linear_form.specs.Nonlinear.{product_at, first_product, first_product_in, nonlinear_product};
+ghost use Rattle.linear_form.specs.Nonlinear.{product_at, first_product, first_product_in};
+ghost use Rattle.linear_form.specs.Nonlinear.{nonlinear_product};
 
 use heylo_formula::{Cond, Form, Goal};
 use heyvl_places::Span;
 
-/// The place of the goal's first product both of whose factors hold a numeric variable outside conditions: in the order of
-/// the text, the stated form before the found one. None exactly where there is none.
+/// Returns the place of the goal's first product whose factors both contain a numeric variable
+/// outside conditions, or None if there is none. The order is that of the text, the stated bound
+/// before the computed form.
 pub fn nonlinear(goal: &Goal) -> Option<Span>
     ensures { result ≡ nonlinear_product (goal_of goal.now) }
 {
@@ -18,7 +20,8 @@ pub fn nonlinear(goal: &Goal) -> Option<Span>
 }
 
 fn here(a: &Form, b: &Form, span: Span) -> Option<Span>
-    ensures { result ≡ product_at (has_variable (form_of a.now) && has_variable (form_of b.now)) span }
+    ensures { result ≡ product_at (has_variable (form_of a.now)
+        && has_variable (form_of b.now)) span }
 {
     if a.has_variable() && b.has_variable() {
         Some(span)

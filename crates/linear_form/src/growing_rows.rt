@@ -1,4 +1,4 @@
-//! The rows of a path, grown answer by answer.
+//! The rows of a path, built answer by answer.
 
 ghost use Rattle.std.specs.Prelude.{◌≤◌, ◌+◌, length, true, false, IfOk};
 ghost use Rattle.heylo_formula.specs.Goals.{goal_of};
@@ -11,7 +11,8 @@ ghost use Rattle.linear_form.specs.PathRows.{rows_of, path_claims, listed, denia
 ghost use Rattle.linear_values.specs.Tightening.{all_tightened};
 ghost use Rattle.linear_form.specs.PlainPaths.{path_of};
 ghost use Rattle.linear_form.specs.internal.FurtherRows.{rows_with};
-ghost use Rattle.linear_form.specs.RowLists.{Lists, AreRows, AreNumericRows, count_of, ArePathRows, LackLastRow, AreLastRows, StartsWith};
+ghost use Rattle.linear_form.specs.RowLists.{Lists, AreRows, AreNumericRows, count_of, ArePathRows};
+ghost use Rattle.linear_form.specs.RowLists.{LackLastRow, AreLastRows, StartsWith};
 ghost use Rattle.linear_form.specs.declared.questions.Ask.TheVariants.{End};
 
 use crate::further_rows::{with_answer, with_below};
@@ -23,8 +24,8 @@ use linear_rows::{Occurrences, Row};
 use linear_values::Lin;
 use std::alloc::{AllocError, Global};
 
-/// The rows of the path's comparisons, from those of the path without its last answer. The truth of a variable has no row.
-/// Want of memory is the one error.
+/// Returns the rows of the answered comparisons of `path`; `rows` are those of `path` without its
+/// last answer. The truth of a Boolean has no row.
 pub fn next_row(
     alloc: Global,
     goal: &Goal,
@@ -33,7 +34,9 @@ pub fn next_row(
 ) -> Result<RowList, AllocError>
     requires path { IsPath (goal_of goal.now) (path_of path.now) }
     requires rows { LackLastRow (goal_of goal.now) (path_of path.now) rows.items }
-    ensures { IfOk result (λ r. Lists r (all_tightened (types_in (goal_of goal.now).types) (path_claims (path_of path.now)))) }
+    ensures { IfOk result (λ r.
+        Lists r (all_tightened (types_in (goal_of goal.now).types)
+        (path_claims (path_of path.now)))) }
 {
     match path.split_last() {
         None => Ok(RowList::Rows(rows)),
@@ -41,8 +44,8 @@ pub fn next_row(
     }
 }
 
-/// The rows of the last answer of the path alone: one where it is to a comparison, none where it is to the truth of a variable, or
-/// where there is no answer. Want of memory is the one error.
+/// Returns the row of the last answer of `path`: none if it is the truth of a Boolean, or if there
+/// is no answer.
 pub fn last_rows(alloc: Global, goal: &Goal, path: &[Taken]) -> Result<RowList, AllocError>
     requires { IsPath (goal_of goal.now) (path_of path.now) }
     ensures { IfOk result (AreLastRows (goal_of goal.now) (path_of path.now)) }
@@ -54,8 +57,8 @@ pub fn last_rows(alloc: Global, goal: &Goal, path: &[Taken]) -> Result<RowList, 
     }
 }
 
-/// The rows of a path without the denied goal, from those of its comparisons, which stand first, and from where the variables
-/// occur in these. Want of memory is the one error.
+/// Returns the rows of `path` without the denied goal; `rows` are those of its answers, and
+/// `occurrences` says where variables occur in them.
 pub fn with_signs_of_path(
     alloc: Global,
     goal: &Goal,
@@ -66,17 +69,19 @@ pub fn with_signs_of_path(
     requires path { IsPath (goal_of goal.now) (path_of path.now) }
     requires rows { ArePathRows (goal_of goal.now) (path_of path.now) rows.items }
     requires occurrences { AreOccurrences (length goal.now.vars.items) rows.items occurrences.now }
-    ensures rows { IfOk result (λ r. Lists r (rows_of (goal_of goal.now) (path_of path.now) false)) }
+    ensures rows { IfOk result
+        (λ r. Lists r (rows_of (goal_of goal.now) (path_of path.now) false)) }
     ensures normal { IfOk result (λ r. AreRows r) }
-    ensures numeric { IsTypedGoal (goal_of goal.now) → IfOk result (λ r. AreNumericRows (goal_of goal.now).types r) }
+    ensures numeric { IsTypedGoal (goal_of goal.now)
+        → IfOk result (λ r. AreNumericRows (goal_of goal.now).types r) }
     ensures few { IfOk result (λ r. count_of r ≤ length path.now + 1 + length goal.now.vars.items) }
     ensures first { IfOk result (λ r. StartsWith rows.items r) }
 {
     with_noted_signs(alloc, &goal.vars, rows, occurrences)
 }
 
-/// The rows of a path with the denied goal, from those of its comparisons, which stand first, and from the values of the two
-/// forms at its end. Want of memory is the one error.
+/// Returns the rows of `path` with the denied goal; `rows` are those of its answers, and `stated`
+/// and `found` are the values of the two forms at its end.
 pub fn with_denied_goal(
     alloc: Global,
     goal: &Goal,
@@ -86,11 +91,13 @@ pub fn with_denied_goal(
     rows: Vec<Row>,
 ) -> Result<RowList, AllocError>
     requires path { IsPath (goal_of goal.now) (path_of path.now) }
-    requires ends { Answers (End stated.now found.now) (end_at (goal_of goal.now) (path_of path.now)) }
+    requires ends { Answers (End stated.now found.now)
+        (end_at (goal_of goal.now) (path_of path.now)) }
     requires rows { ArePathRows (goal_of goal.now) (path_of path.now) rows.items }
     ensures rows { IfOk result (λ r. Lists r (rows_of (goal_of goal.now) (path_of path.now) true)) }
     ensures normal { IfOk result (λ r. AreRows r) }
-    ensures numeric { IsTypedGoal (goal_of goal.now) → IfOk result (λ r. AreNumericRows (goal_of goal.now).types r) }
+    ensures numeric { IsTypedGoal (goal_of goal.now)
+        → IfOk result (λ r. AreNumericRows (goal_of goal.now).types r) }
     ensures few { IfOk result (λ r. count_of r ≤ length path.now + 1 + length goal.now.vars.items) }
     ensures first { IfOk result (λ r. StartsWith rows.items r) }
 {
@@ -100,7 +107,7 @@ pub fn with_denied_goal(
     }
 }
 
-/// The rows, and after them the denied goal, where the goal doesn't hold plainly.
+/// Returns `rows`, followed by the row of the denied goal unless the goal holds trivially.
 fn with_denial(
     alloc: Global,
     goal: &Goal,
@@ -110,8 +117,12 @@ fn with_denial(
     rows: Vec<Row>,
 ) -> Result<RowList, AllocError>
     requires path { IsPath (goal_of goal.now) (path_of path.now) }
-    requires ends { Answers (End stated.now found.now) (end_at (goal_of goal.now) (path_of path.now)) }
-    ensures { IfOk result (λ r. Lists r (rows_with (types_in (goal_of goal.now).types) rows.items (listed (denial_at (goal_of goal.now).upper (end_at (goal_of goal.now) (path_of path.now)))))) }
+    requires ends { Answers (End stated.now found.now)
+        (end_at (goal_of goal.now) (path_of path.now)) }
+    ensures { IfOk result (λ r.
+        Lists r (rows_with (types_in (goal_of goal.now).types) rows.items
+        (listed (denial_at (goal_of goal.now).upper
+        (end_at (goal_of goal.now) (path_of path.now)))))) }
 {
     if goal.upper {
         with_below(alloc, &goal.vars, rows, stated, found)

@@ -1,4 +1,4 @@
-//! What a path has decided of Boolean variables.
+//! The Booleans that a path has decided.
 
 ghost use Rattle.std.specs.Prelude.{◌≡◌, take, Bool, Option, Some, if◌then◌else◌};
 ghost use Rattle.linear_form.specs.Query.{known, known_by};
@@ -6,9 +6,10 @@ ghost use Rattle.linear_form.specs.PlainPaths.{path_of, atom_of};
 
 use crate::paths::{Atom, Taken};
 
-/// Whether the question is the truth of this variable.
+/// Returns whether `atom` is the truth of the Boolean `x`.
 fn asks_truth(atom: &Atom, x: u32) -> bool
-    ensures { (held : Bool) (other : Option Bool) → known_by x (atom_of atom.now) held other ≡ (if result then Some held else other) }
+    ensures { (held : Bool) (other : Option Bool)
+        → known_by x (atom_of atom.now) held other ≡ (if result then Some held else other) }
 {
     match atom {
         Atom::Truth(y) => x == *y,
@@ -16,7 +17,7 @@ fn asks_truth(atom: &Atom, x: u32) -> bool
     }
 }
 
-/// The truth of a Boolean variable that the first `count` answers of a path have decided.
+/// Returns the truth of the Boolean `x` if one of the first `count` answers of `path` decides it.
 pub fn known_truth(x: u32, path: &[Taken], count: usize) -> Option<bool>
     ensures { result ≡ known x (take count (path_of path.now)) }
 {

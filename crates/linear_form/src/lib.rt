@@ -1,4 +1,9 @@
-//! Linear questions of a goal along a path, and the rows of a path.
+//! The comparisons of a goal along a path, and the rows of a path.
+//!
+//! A *path* is a list of answered comparisons: `x <= 3`, or the truth of a Boolean. `begin` and
+//! `go_on` evaluate a goal along a path to its next comparison or to an end, where both forms are
+//! linear values. The *rows* of a path are the inequalities that its answers say. `AllocError`
+//! means that memory ran out, and `Bits` that a number has more than 62 bits.
 #![tactic(auto)]
 
 mod claim_laws;

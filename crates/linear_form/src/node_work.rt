@@ -1,4 +1,4 @@
-//! What the parts of nodes do.
+//! The parts of the nodes of a graph.
 
 ghost use Rattle.std.specs.Prelude.{◌≡◌, false, true, IfOk, List, map, Some, ℕ};
 ghost use Rattle.std.specs.Rc.{rc_value};
@@ -10,7 +10,8 @@ ghost use Rattle.linear_form.specs.PlainPaths.{atom_of};
 ghost use Rattle.linear_form.specs.Questions.{number, sized};
 ghost use Rattle.linear_form.specs.internal.GoalParts.{AreParts, IsPartOf, IsWorkOf};
 ghost use Rattle.linear_form.specs.internal.Outcomes.{Result as Outcomes, valued};
-ghost use Rattle.linear_form.specs.internal.Parts.{asked_by_work, IsReadyWork, known_part, Part as PlainPart, Work as PlainWork};
+ghost use Rattle.linear_form.specs.internal.Parts.{asked_by_work, IsReadyWork, known_part};
+ghost use Rattle.linear_form.specs.internal.Parts.{Part as PlainPart, Work as PlainWork};
 ghost use Rattle.linear_form.specs.internal.PlainParts.{part_of, work_of};
 ghost use Rattle.linear_values.specs.PlainValues.{linear_of};
 
@@ -24,13 +25,14 @@ use linear_values::lin::{constant, is_sized, variable};
 use std::alloc::{AllocError, Global};
 use std::rc::Rc;
 
-/// What the part of a node does, over the parts of the nodes before it. Want of memory is the one error.
+/// Returns the work of the part for `node`; `parts` are those of the nodes before it.
 pub(crate) fn work_of_node(
     alloc: Global,
     node: &Node,
     parts: &[Rc<Part, Global>],
 ) -> Result<Work, AllocError>
-    ensures { IfOk result (λ w. (ns : List NodeValue) (t : Tree) → AreParts ns (map rc_value parts.now) → IsNodeOf ns node.now t → IsWorkOf t w) }
+    ensures { IfOk result (λ w. (ns : List NodeValue) (t : Tree)
+        → AreParts ns (map rc_value parts.now) → IsNodeOf ns node.now t → IsWorkOf t w) }
 {
     let first = part_at(alloc, parts, node.first())?;
     let second = part_at(alloc, parts, node.second())?;
@@ -59,13 +61,15 @@ pub(crate) fn work_of_node(
     }
 }
 
-/// The part of the node with the number. Where there is none, any part is as good.
+/// Returns the part of the node `id`. If there is no such node, the result is arbitrary.
 pub(crate) fn part_at(
     alloc: Global,
     parts: &[Rc<Part, Global>],
     id: Option<NodeId>,
 ) -> Result<Rc<Part, Global>, AllocError>
-    ensures { IfOk result (λ p. (ns : List NodeValue) (i : ℕ) (t : Tree) → AreParts ns (map rc_value parts.now) → id ≡ Some i → tree_at ns i ≡ Some t → IsPartOf t p.value) }
+    ensures { IfOk result (λ p. (ns : List NodeValue) (i : ℕ) (t : Tree)
+        → AreParts ns (map rc_value parts.now) → id ≡ Some i → tree_at ns i ≡ Some t
+        → IsPartOf t p.value) }
 {
     let index = id.map_or(0, NodeId::index);
     match parts.get(index) {
@@ -74,60 +78,65 @@ pub(crate) fn part_at(
     }
 }
 
-/// A part of which nobody knows whether it asks a comparison.
+/// Returns the part of `work`, without a claim that it asks a comparison.
 pub(crate) fn unsure(alloc: Global, work: Work) -> Result<Rc<Part, Global>, AllocError>
     ensures { IfOk result (λ p. part_of p.value ≡ PlainPart.part (work_of work) false) }
 {
     Ok(Rc::new(alloc, Part { work, asks: false })?)
 }
 
-/// One of two values, by the truth of a part.
+/// Returns the work that selects the value `yes` or `no` by the truth of `test`.
 fn picked(
     alloc: Global,
     test: Rc<Part, Global>,
     yes: Option<Lin>,
     no: Option<Lin>,
 ) -> Result<Work, AllocError>
-    ensures { IfOk result (λ w. work_of w ≡ PlainWork.choice (part_of test.value) (known_part (Outcomes.number (linear_of yes))) (known_part (Outcomes.number (linear_of no)))) }
+    ensures { IfOk result (λ w. work_of w
+        ≡ PlainWork.choice (part_of test.value) (known_part (Outcomes.number (linear_of yes)))
+        (known_part (Outcomes.number (linear_of no)))) }
 {
     let one = unsure(alloc, value_work(alloc, yes)?)?;
     let other = unsure(alloc, value_work(alloc, no)?)?;
     Ok(Work::Choice(test, one, other))
 }
 
-/// The other truth than that of the part.
 fn denied(alloc: Global, test: Rc<Part, Global>) -> Result<Work, AllocError>
-    ensures { IfOk result (λ w. work_of w ≡ PlainWork.choice (part_of test.value) (known_part (Outcomes.truth false)) (known_part (Outcomes.truth true))) }
+    ensures { IfOk result (λ w. work_of w
+        ≡ PlainWork.choice (part_of test.value) (known_part (Outcomes.truth false))
+        (known_part (Outcomes.truth true))) }
 {
     let no = truth(alloc, false)?;
     Ok(Work::Choice(test, no, truth(alloc, true)?))
 }
 
-/// The answer of a question.
+/// Returns the work whose result is the answer to `atom`.
 pub(crate) fn question(alloc: Global, atom: Rc<Atom, Global>) -> Result<Work, AllocError>
-    ensures { IfOk result (λ w. work_of w ≡ PlainWork.asks (atom_of atom.value) (known_part (Outcomes.truth true)) (known_part (Outcomes.truth false))) }
+    ensures { IfOk result (λ w. work_of w
+        ≡ PlainWork.asks (atom_of atom.value) (known_part (Outcomes.truth true))
+        (known_part (Outcomes.truth false))) }
 {
     let yes = truth(alloc, true)?;
     Ok(Work::Asks(atom, yes, truth(alloc, false)?))
 }
 
-/// A truth that is known.
 fn truth(alloc: Global, holds: bool) -> Result<Rc<Part, Global>, AllocError>
     ensures { IfOk result (λ p. part_of p.value ≡ known_part (Outcomes.truth holds)) }
 {
     unsure(alloc, Work::Known(Outcome::Truth(holds)))
 }
 
-/// A value that is known. None is infinity.
+/// Returns the work with the known result `value`; None is infinity.
 fn value_work(alloc: Global, value: Option<Lin>) -> Result<Work, AllocError>
     ensures { IfOk result (λ w. work_of w ≡ PlainWork.known (Outcomes.number (linear_of value))) }
 {
     Ok(Work::Known(Outcome::Number(Rc::new(alloc, value)?)))
 }
 
-/// A constant.
 fn constant_work(alloc: Global, v: &Ext) -> Result<Work, AllocError>
-    ensures { IfOk result (λ w. (asked_by_work (work_of w) ≡ valued (sized (number (value_of v.now)))) × IsReadyWork (work_of w)) }
+    ensures { IfOk result (λ w.
+        (asked_by_work (work_of w) ≡ valued (sized (number (value_of v.now))))
+        × IsReadyWork (work_of w)) }
 {
     let Ext::Fin(x) = v else {
         return value_work(alloc, None);

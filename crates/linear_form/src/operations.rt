@@ -1,4 +1,4 @@
-//! What is done with the values of two parts.
+//! Operations on the values of two parts.
 
 ghost use Rattle.std.specs.Prelude.{Bool, List, ℕ};
 ghost use Rattle.linear_form.specs.Query.{Query, Taken as PlainTaken};
@@ -23,32 +23,33 @@ use linear_values::lin::is_nothing;
 use std::alloc::Global;
 use std::rc::Rc;
 
-/// What a part comes to, and the place where the path goes on.
+/// The result of a part, and the index of the next answer of the path.
 #[derive(Drop)]
 pub(crate) struct Came {
     pub outcome: Outcome,
     pub next: usize,
 }
 
-/// A value that is found.
 fn number_came(alloc: Global, found: Result<Found, Stop>) -> Result<Came, Stop>
-    ensures { (ps : List PlainTaken) (q : Query Linear) (i : ℕ) → Gives found (along ps q i) → Comes result (along ps (valued q) i) }
+    ensures { (ps : List PlainTaken) (q : Query Linear) (i : ℕ) → Gives found (along ps q i)
+        → Comes result (along ps (valued q) i) }
 {
     let Found { value, next } = found?;
     let outcome = Outcome::Number(Rc::new(alloc, value)?);
     Ok(Came { outcome, next })
 }
 
-/// A truth that is found.
 fn truth_came(tested: Result<Tested, Stop>) -> Result<Came, Stop>
-    ensures { (ps : List PlainTaken) (q : Query Bool) (i : ℕ) → GivesTruth tested (along ps q i) → Comes result (along ps (told q) i) }
+    ensures { (ps : List PlainTaken) (q : Query Bool) (i : ℕ) → GivesTruth tested (along ps q i)
+        → Comes result (along ps (told q) i) }
 {
     let Tested { holds, next } = tested?;
     let outcome = Outcome::Truth(holds);
     Ok(Came { outcome, next })
 }
 
-/// What is done with what two parts come to.
+/// Returns the result of `operation` on the results of two parts; `at` is the index of the next
+/// answer of `path`.
 pub(crate) fn operated(
     alloc: Global,
     operation: &Operation,
@@ -59,7 +60,8 @@ pub(crate) fn operated(
 ) -> Result<Came, Stop>
     requires first { IsKeptResult (outcome_of first.now) }
     requires second { IsKeptResult (outcome_of second.now) }
-    ensures { Comes result (along (path_of path.now) (operated operation.now (outcome_of first.now) (outcome_of second.now)) at) }
+    ensures { Comes result (along (path_of path.now)
+        (operated operation.now (outcome_of first.now) (outcome_of second.now)) at) }
 {
     let Outcome::Number(x) = first else {
         return Err(Stop::Bits);

@@ -1,6 +1,8 @@
-//! The operators on linear values and infinity: the questions that they ask, and their results.
+//! The operators on linear values and infinity (None): the comparisons that they ask, and their
+//! results, with the index of the next answer of the path.
 
-ghost use Rattle.std.specs.Prelude.{◌≡◌, ◌&&◌, ◌||◌, ◌<◌, length, List, Some, None, true, if◌then◌else◌};
+ghost use Rattle.std.specs.Prelude.{◌≡◌, ◌&&◌, ◌||◌, ◌<◌, length, List, Some, None, true};
+ghost use Rattle.std.specs.Prelude.{if◌then◌else◌};
 ghost use Rattle.linear_values.specs.Lin.{minus as lin_minus, scaled as lin_scaled};
 ghost use Rattle.heyvl_num.specs.Value.{is_zeroʳ};
 ghost use Rattle.linear_form.specs.Query.{Taken as PlainTaken};
@@ -22,7 +24,7 @@ use linear_values::numbers::{fits, is_negative, is_zero, signed, sum as number_s
 use std::alloc::Global;
 use std::rc::Rc;
 
-/// Whether a linear value is at most 0 or, where strict, below 0: known without variables, else asked.
+/// Returns whether `a` is at most 0 or, if `strict`, below 0: known if `a` is constant.
 fn is_below(alloc: Global, a: Lin, strict: bool, path: &[Taken], at: usize) -> Result<Tested, Stop>
     ensures { GivesTruth result (along (path_of path.now) (tree.is_below (lin_of a) strict) at) }
 {
@@ -39,7 +41,7 @@ fn is_below(alloc: Global, a: Lin, strict: bool, path: &[Taken], at: usize) -> R
     }
 }
 
-/// Whether the first value is at most the second or, where strict, below it.
+/// Returns whether `a` is at most `b` or, if `strict`, below it.
 fn compare(
     alloc: Global,
     a: &Lin,
@@ -50,7 +52,9 @@ fn compare(
 ) -> Result<Tested, Stop>
     requires left { IsKept (lin_of a.now) }
     requires right { IsKept (lin_of b.now) }
-    ensures { GivesTruth result (along (path_of path.now) (tree.is_below (lin_minus (lin_of a.now) (lin_of b.now)) strict) at) }
+    ensures { GivesTruth result
+        (along (path_of path.now) (tree.is_below (lin_minus (lin_of a.now) (lin_of b.now)) strict)
+        at) }
 {
     if at < path.len() {
         if is_constant(a) || is_constant(b) {
@@ -61,20 +65,22 @@ fn compare(
     is_below(alloc, difference, strict, path, at)
 }
 
-/// Whether both hold no variable.
 fn are_constant(a: &Lin, b: &Lin) -> bool
     ensures { result ≡ (has_no_terms (lin_of a.now).terms && has_no_terms (lin_of b.now).terms) }
 {
     is_constant(a) && is_constant(b)
 }
 
-/// The same where the path goes on and one of the two holds no variable: the difference isn't made.
+/// Compares as `compare` does, without the difference, on a path with an answer left.
 fn compare_on(a: &Lin, b: &Lin, strict: bool, path: &[Taken], at: usize) -> Result<Tested, Stop>
     requires left { IsKept (lin_of a.now) }
     requires right { IsKept (lin_of b.now) }
-    requires constant { (has_no_terms (lin_of a.now).terms || has_no_terms (lin_of b.now).terms) ≡ true }
+    requires constant { (has_no_terms (lin_of a.now).terms || has_no_terms (lin_of b.now).terms)
+        ≡ true }
     requires goes_on { at < length path.now }
-    ensures { GivesTruth result (along (path_of path.now) (tree.is_below (lin_minus (lin_of a.now) (lin_of b.now)) strict) at) }
+    ensures { GivesTruth result
+        (along (path_of path.now) (tree.is_below (lin_minus (lin_of a.now) (lin_of b.now)) strict)
+        at) }
 {
     let rest = number_sum(&a.rest, &signed(&b.rest, true));
     if !fits(&rest) {
@@ -92,9 +98,10 @@ fn compare_on(a: &Lin, b: &Lin, strict: bool, path: &[Taken], at: usize) -> Resu
     }
 }
 
-/// A value that a node has.
+/// Returns `value`, or an overflow if one of its numbers has more than 62 bits.
 fn sized(value: Lin, at: usize) -> Result<Found, Stop>
-    ensures { (ps : List PlainTaken) → Gives result (along ps (tree.sized (Some (lin_of value))) at) }
+    ensures { (ps : List PlainTaken)
+        → Gives result (along ps (tree.sized (Some (lin_of value))) at) }
 {
     if is_sized(&value) {
         Ok(Found {
@@ -106,21 +113,20 @@ fn sized(value: Lin, at: usize) -> Result<Found, Stop>
     }
 }
 
-/// 0.
+/// Returns the value 0.
 pub(crate) fn nothing(alloc: Global) -> Option<Lin>
     ensures { linear_of result ≡ tree.zero }
 {
     Some(constant(alloc, Frac::zero()))
 }
 
-/// 1.
+/// Returns the value 1.
 pub(crate) fn unit(alloc: Global) -> Option<Lin>
     ensures { linear_of result ≡ tree.one }
 {
     Some(constant(alloc, Frac::one()))
 }
 
-/// The value again.
 fn same(alloc: Global, a: &Option<Lin>, at: usize) -> Result<Found, Stop>
     ensures { Gives result (Evaluation.value (linear_of a.now) at) }
 {
@@ -130,7 +136,7 @@ fn same(alloc: Global, a: &Option<Lin>, at: usize) -> Result<Found, Stop>
     })
 }
 
-/// 0 where a factor of infinity is at most 0, else infinity.
+/// Returns infinity times `a`: 0 if `a` is at most 0, otherwise infinity.
 fn zero_or_infinity(alloc: Global, a: Lin, path: &[Taken], at: usize) -> Result<Found, Stop>
     ensures { Gives result (along (path_of path.now) (tree.infinite_product (lin_of a)) at) }
 {
@@ -148,7 +154,6 @@ fn zero_or_infinity(alloc: Global, a: Lin, path: &[Taken], at: usize) -> Result<
     }
 }
 
-/// The product of infinity with a linear value.
 fn infinite_product(alloc: Global, a: &Lin, path: &[Taken], at: usize) -> Result<Found, Stop>
     ensures { Gives result (along (path_of path.now) (tree.infinite_product (lin_of a.now)) at) }
 {
@@ -156,11 +161,12 @@ fn infinite_product(alloc: Global, a: &Lin, path: &[Taken], at: usize) -> Result
     zero_or_infinity(alloc, factor, path, at)
 }
 
-/// The product of two linear values, one of which is constant.
 fn finite_product(alloc: Global, a: &Lin, b: &Lin, path: &[Taken], at: usize) -> Result<Found, Stop>
     requires left { IsKept (lin_of a.now) }
     requires right { IsKept (lin_of b.now) }
-    ensures { Gives result (along (path_of path.now) (tree.finite_product (lin_of a.now).terms (lin_of b.now).terms (lin_of a.now) (lin_of b.now)) at) }
+    ensures { Gives result (along (path_of path.now)
+        (tree.finite_product (lin_of a.now).terms (lin_of b.now).terms (lin_of a.now)
+        (lin_of b.now)) at) }
 {
     if is_constant(a) {
         let total = scaled(alloc, &a.rest, b)?;
@@ -183,7 +189,8 @@ pub(crate) fn sum(
 ) -> Result<Found, Stop>
     requires left { IsKeptValue (linear_of a.now) }
     requires right { IsKeptValue (linear_of b.now) }
-    ensures { Gives result (along (path_of path.now) (tree.sum (linear_of a.now) (linear_of b.now)) at) }
+    ensures { Gives result (along (path_of path.now)
+        (tree.sum (linear_of a.now) (linear_of b.now)) at) }
 {
     match a {
         None => Ok(Found {
@@ -213,7 +220,8 @@ pub(crate) fn difference(
 ) -> Result<Found, Stop>
     requires left { IsKeptValue (linear_of a.now) }
     requires right { IsKeptValue (linear_of b.now) }
-    ensures { Gives result (along (path_of path.now) (tree.difference (linear_of a.now) (linear_of b.now)) at) }
+    ensures { Gives result (along (path_of path.now)
+        (tree.difference (linear_of a.now) (linear_of b.now)) at) }
 {
     match a {
         None => Ok(Found {
@@ -243,7 +251,8 @@ pub(crate) fn cut(
 ) -> Result<Found, Stop>
     requires left { IsKeptValue (linear_of a.now) }
     requires right { IsKeptValue (linear_of b.now) }
-    ensures { Gives result (along (path_of path.now) (tree.cut (linear_of a.now) (linear_of b.now)) at) }
+    ensures { Gives result (along (path_of path.now)
+        (tree.cut (linear_of a.now) (linear_of b.now)) at) }
 {
     match a {
         None => match b {
@@ -287,7 +296,8 @@ pub(crate) fn product(
 ) -> Result<Found, Stop>
     requires left { IsKeptValue (linear_of a.now) }
     requires right { IsKeptValue (linear_of b.now) }
-    ensures { Gives result (along (path_of path.now) (tree.product (linear_of a.now) (linear_of b.now)) at) }
+    ensures { Gives result (along (path_of path.now)
+        (tree.product (linear_of a.now) (linear_of b.now)) at) }
 {
     match a {
         None => match b {
@@ -313,7 +323,8 @@ pub(crate) fn min(
 ) -> Result<Found, Stop>
     requires left { IsKeptValue (linear_of a.now) }
     requires right { IsKeptValue (linear_of b.now) }
-    ensures { Gives result (along (path_of path.now) (tree.min (linear_of a.now) (linear_of b.now)) at) }
+    ensures { Gives result (along (path_of path.now)
+        (tree.min (linear_of a.now) (linear_of b.now)) at) }
 {
     match a {
         None => same(alloc, b, at),
@@ -340,7 +351,8 @@ pub(crate) fn max(
 ) -> Result<Found, Stop>
     requires left { IsKeptValue (linear_of a.now) }
     requires right { IsKeptValue (linear_of b.now) }
-    ensures { Gives result (along (path_of path.now) (tree.max (linear_of a.now) (linear_of b.now)) at) }
+    ensures { Gives result (along (path_of path.now)
+        (tree.max (linear_of a.now) (linear_of b.now)) at) }
 {
     match a {
         None => Ok(Found {
@@ -373,7 +385,8 @@ pub(crate) fn imply(
 ) -> Result<Found, Stop>
     requires left { IsKeptValue (linear_of a.now) }
     requires right { IsKeptValue (linear_of b.now) }
-    ensures { Gives result (along (path_of path.now) (tree.imply (linear_of a.now) (linear_of b.now)) at) }
+    ensures { Gives result (along (path_of path.now)
+        (tree.imply (linear_of a.now) (linear_of b.now)) at) }
 {
     match a {
         None => same(alloc, b, at),
@@ -406,7 +419,8 @@ pub(crate) fn co_imply(
 ) -> Result<Found, Stop>
     requires left { IsKeptValue (linear_of a.now) }
     requires right { IsKeptValue (linear_of b.now) }
-    ensures { Gives result (along (path_of path.now) (tree.co_imply (linear_of a.now) (linear_of b.now)) at) }
+    ensures { Gives result (along (path_of path.now)
+        (tree.co_imply (linear_of a.now) (linear_of b.now)) at) }
 {
     match a {
         None => Ok(Found {
@@ -433,7 +447,7 @@ pub(crate) fn co_imply(
     }
 }
 
-/// Infinity where the value is infinity, else 0.
+/// Returns infinity if `a` is infinity, otherwise 0.
 pub(crate) fn validate(alloc: Global, a: &Option<Lin>, at: usize) -> Found
     ensures value { linear_of result.value ≡ tree.validate (linear_of a.now) }
     ensures next { result.next ≡ at }
@@ -445,7 +459,7 @@ pub(crate) fn validate(alloc: Global, a: &Option<Lin>, at: usize) -> Found
     Found { value, next: at }
 }
 
-/// 0 where the value is at most 0, else infinity.
+/// Returns 0 if `a` is at most 0, otherwise infinity.
 #[tactic(auto, unfolding(crate::specs::internal::Run::along))]
 pub(crate) fn co_validate(
     alloc: Global,
@@ -464,17 +478,17 @@ pub(crate) fn co_validate(
     }
 }
 
-/// A multiple of infinity; 0 times infinity is 0.
+/// Returns `w` times infinity; 0 times infinity is 0.
 fn infinite_multiple(alloc: Global, w: &Frac) -> Option<Lin>
     ensures { linear_of result ≡ (if is_zeroʳ w.now then tree.zero else None) }
 {
     if is_zero(w) { nothing(alloc) } else { None }
 }
 
-/// A multiple of a linear value.
 fn finite_multiple(alloc: Global, w: &Frac, a: &Lin, at: usize) -> Result<Found, Stop>
     requires { IsKept (lin_of a.now) }
-    ensures { (ps : List PlainTaken) → Gives result (along ps (tree.sized (Some (lin_scaled w.now (lin_of a.now)))) at) }
+    ensures { (ps : List PlainTaken)
+        → Gives result (along ps (tree.sized (Some (lin_scaled w.now (lin_of a.now)))) at) }
 {
     match small_multiple(alloc, w, a)? {
         Some(total) => Ok(Found {
@@ -485,10 +499,10 @@ fn finite_multiple(alloc: Global, w: &Frac, a: &Lin, at: usize) -> Result<Found,
     }
 }
 
-/// A multiple of a value.
 pub(crate) fn scale(alloc: Global, w: &Frac, a: &Option<Lin>, at: usize) -> Result<Found, Stop>
     requires { IsKeptValue (linear_of a.now) }
-    ensures { (ps : List PlainTaken) → Gives result (along ps (tree.scale w.now (linear_of a.now)) at) }
+    ensures { (ps : List PlainTaken)
+        → Gives result (along ps (tree.scale w.now (linear_of a.now)) at) }
 {
     match a {
         None => Ok(Found {
@@ -499,7 +513,6 @@ pub(crate) fn scale(alloc: Global, w: &Frac, a: &Option<Lin>, at: usize) -> Resu
     }
 }
 
-/// Whether the first value is at most the second.
 #[tactic(auto, unfolding(crate::specs::internal::Run::along))]
 pub(crate) fn at_most(
     alloc: Global,
@@ -510,7 +523,8 @@ pub(crate) fn at_most(
 ) -> Result<Tested, Stop>
     requires left { IsKeptValue (linear_of a.now) }
     requires right { IsKeptValue (linear_of b.now) }
-    ensures { GivesTruth result (along (path_of path.now) (tree.at_most (linear_of a.now) (linear_of b.now)) at) }
+    ensures { GivesTruth result
+        (along (path_of path.now) (tree.at_most (linear_of a.now) (linear_of b.now)) at) }
 {
     match a {
         None => match b {
@@ -533,7 +547,6 @@ pub(crate) fn at_most(
     }
 }
 
-/// Whether the first value is below the second.
 #[tactic(auto, unfolding(crate::specs::internal::Run::along))]
 pub(crate) fn less(
     alloc: Global,
@@ -544,7 +557,8 @@ pub(crate) fn less(
 ) -> Result<Tested, Stop>
     requires left { IsKeptValue (linear_of a.now) }
     requires right { IsKeptValue (linear_of b.now) }
-    ensures { GivesTruth result (along (path_of path.now) (tree.less (linear_of a.now) (linear_of b.now)) at) }
+    ensures { GivesTruth result
+        (along (path_of path.now) (tree.less (linear_of a.now) (linear_of b.now)) at) }
 {
     match a {
         None => Ok(Tested {
@@ -561,7 +575,7 @@ pub(crate) fn less(
     }
 }
 
-/// Whether the values are equal: each at most the other.
+/// Returns whether `a` equals `b`: whether each is at most the other.
 #[tactic(auto, unfolding(crate::specs::internal::Run::along))]
 pub(crate) fn equal(
     alloc: Global,
@@ -572,7 +586,8 @@ pub(crate) fn equal(
 ) -> Result<Tested, Stop>
     requires left { IsKeptValue (linear_of a.now) }
     requires right { IsKeptValue (linear_of b.now) }
-    ensures { GivesTruth result (along (path_of path.now) (tree.equal (linear_of a.now) (linear_of b.now)) at) }
+    ensures { GivesTruth result
+        (along (path_of path.now) (tree.equal (linear_of a.now) (linear_of b.now)) at) }
 {
     let test = at_most(alloc, a, b, path, at)?;
     if test.holds {

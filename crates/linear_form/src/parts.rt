@@ -1,4 +1,4 @@
-//! The parts of a goal, ready to be evaluated: what each does with what its own parts come to. Equal parts stand once.
+//! The parts of a goal, prepared for evaluation; equal parts are shared.
 
 use crate::paths::Atom;
 use heylo_graph::Node;
@@ -6,45 +6,41 @@ use linear_values::Lin;
 use std::alloc::Global;
 use std::rc::Rc;
 
-/// What is done with the values of two parts.
 #[derive(Clone, Copy)]
 pub(crate) enum Operation {
-    /// The operator of a node. One with one operand looks at the second value alone.
+    /// The operator of a node. A unary operator uses only the second value.
     Of(Node),
-    /// Both, as the values of the two forms of a goal.
+    /// The pair of the values, of the stated bound and of the computed form.
     Ends,
 }
 
-/// What a part comes to. A value is infinity where it is None.
+/// The result of a part. The value None is infinity.
 #[derive(Clone, Drop)]
 pub(crate) enum Outcome {
     Number(Rc<Option<Lin>, Global>),
     Truth(bool),
-    /// The values of both forms of the goal.
+    /// The values of the stated bound and of the computed form.
     Ends(Rc<Option<Lin>, Global>, Rc<Option<Lin>, Global>),
 }
 
-/// A part of a goal.
 #[derive(Drop)]
 #[cycle(parts)]
 pub(crate) struct Part {
     pub work: Work,
-    /// Whether each evaluation surely asks a comparison. It may be told no of any.
+    /// True only if each evaluation of the part asks a comparison of numbers.
     pub asks: bool,
 }
 
-/// What a part does.
 #[derive(Drop)]
 #[cycle(parts)]
 pub(crate) enum Work {
-    /// Nothing is asked: it comes to this.
+    /// The result is known; nothing is asked.
     Known(Outcome),
-    /// A number is too large. So is a binder, which no goal has.
+    /// A number overflows. A binder has this work too, but no goal has binders.
     Large,
-    /// The first part where the answer is yes, else the second.
+    /// A comparison: the first part if it holds, otherwise the second.
     Asks(Rc<Atom, Global>, Rc<Part, Global>, Rc<Part, Global>),
-    /// What is done with the values of two parts.
     Two(Operation, Rc<Part, Global>, Rc<Part, Global>),
-    /// The second part where the first one is true, else the third.
+    /// The second part if the first is true, otherwise the third.
     Choice(Rc<Part, Global>, Rc<Part, Global>, Rc<Part, Global>),
 }

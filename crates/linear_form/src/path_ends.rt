@@ -1,4 +1,4 @@
-//! What stands at the end of a path of a goal.
+//! The end of a path of a goal.
 
 ghost use Rattle.std.specs.Prelude.{IfOk};
 ghost use Rattle.heylo_formula.specs.Goals.{goal_of};
@@ -13,10 +13,11 @@ use crate::questions::Ask;
 use heylo_formula::Goal;
 use std::alloc::{AllocError, Global};
 
-/// What stands at the end of a path of the goal: the next question, the values of both forms, or Bits. Where the path goes on with
-/// splits behind its last question, these are the values at that end. In a goal without a
-/// nonlinear product Bits is given exactly where a number of a value that is evaluated on this path, or of a difference that
-/// is compared, reaches 2^62. Want of memory is the one error.
+/// Returns what is at the end of `path`: the next comparison, the values of both forms, or `Bits`.
+///
+/// If the path has splits after its last comparison, the values are those before the splits. In a
+/// goal without a nonlinear product, `Bits` is returned exactly if a number of a value that is
+/// evaluated on this path, or of a difference that is compared, reaches 2^62.
 pub fn ask(alloc: Global, goal: &Goal, path: &[Taken]) -> Result<Ask, AllocError>
     requires { IsPath (goal_of goal.now) (path_of path.now) }
     ensures { IfOk result (λ a. Answers a (end_at (goal_of goal.now) (path_of path.now))) }

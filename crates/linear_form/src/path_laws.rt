@@ -2,7 +2,7 @@
 
 ghost use Rattle.linear_form.specs.PathLaws as law;
 
-/// A path has at most as many questions as the two forms of its goal have nodes.
+/// States that a path has at most as many comparisons as the two forms of its goal have nodes.
 pub fn paths_are_short()
     ensures { law.PathsAreShort }
 {}

@@ -21,19 +21,21 @@ use heylo_formula::{Goal, Ty};
 use linear_rows::Row;
 use std::alloc::{AllocError, Global};
 
-/// The rows of a path, or that one of their numbers is too large.
+/// The rows of a path, or an overflow of one of their numbers.
 #[derive(Drop)]
 pub enum RowList {
-    /// What the answers of the path say, the denied goal where it is asked for, and that no unsigned variable is negative.
+    /// The rows of the answers of the path, of the denied goal if it is asked for, and of the signs
+    /// of unsigned variables.
     Rows(Vec<Row>),
-    /// A number reaches 2^62, or the constant's multiple 2^127.
+    /// A number reaches 2^62, or the product of the constant and its factor reaches 2^127.
     Bits,
 }
 
-/// The rows of the comparisons, in order, as they were answered.
+/// Returns the rows of the answered comparisons of `path`, in order.
 fn path_rows(alloc: Global, types: &[Ty], path: &[Taken]) -> Result<RowList, AllocError>
     requires { IsNormalPath (path_of path.now) }
-    ensures { IfOk result (λ r. Lists r (all_tightened (types_in types.now) (path_claims (path_of path.now)))) }
+    ensures { IfOk result (λ r.
+        Lists r (all_tightened (types_in types.now) (path_claims (path_of path.now)))) }
 {
     let mut rows = Vec::new(alloc);
     let mut rest = path;
@@ -47,7 +49,7 @@ fn path_rows(alloc: Global, types: &[Ty], path: &[Taken]) -> Result<RowList, All
     Ok(RowList::Rows(rows))
 }
 
-/// The rows, and after them the denied goal, if the path is at an end at which the goal doesn't hold plainly.
+/// Returns `rows` and the denied goal, if `path` is at an end and the goal is not trivial there.
 fn with_denial(
     alloc: Global,
     goal: &Goal,
@@ -55,7 +57,10 @@ fn with_denial(
     rows: Vec<Row>,
 ) -> Result<RowList, AllocError>
     requires { IsPath (goal_of goal.now) (path_of path.now) }
-    ensures { IfOk result (λ r. Lists r (rows_with (types_in (goal_of goal.now).types) rows.items (listed (denial_at (goal_of goal.now).upper (end_at (goal_of goal.now) (path_of path.now)))))) }
+    ensures { IfOk result (λ r.
+        Lists r (rows_with (types_in (goal_of goal.now).types) rows.items
+        (listed (denial_at (goal_of goal.now).upper
+        (end_at (goal_of goal.now) (path_of path.now)))))) }
 {
     match ask(alloc, goal, path)? {
         Ask::Decide(_) => Ok(RowList::Rows(rows)),
@@ -70,7 +75,7 @@ fn with_denial(
     }
 }
 
-/// The rows of the comparisons and, where asked for, the denied goal.
+/// Returns the rows of the answered comparisons and, if `denied`, of the denied goal.
 fn claimed_rows(
     alloc: Global,
     goal: &Goal,
@@ -78,7 +83,12 @@ fn claimed_rows(
     denied: bool,
 ) -> Result<RowList, AllocError>
     requires { IsPath (goal_of goal.now) (path_of path.now) }
-    ensures { IfOk result (λ r. Lists r (all_tightened (types_in (goal_of goal.now).types) (path_claims (path_of path.now) ++ (if denied then listed (denial_at (goal_of goal.now).upper (end_at (goal_of goal.now) (path_of path.now))) else [])))) }
+    ensures { IfOk result (λ r.
+        Lists r (all_tightened (types_in (goal_of goal.now).types)
+        (path_claims (path_of path.now)
+        ++ (if denied
+        then listed (denial_at (goal_of goal.now).upper
+        (end_at (goal_of goal.now) (path_of path.now))) else [])))) }
 {
     match path_rows(alloc, &goal.vars, path)? {
         RowList::Bits => Ok(RowList::Bits),
@@ -92,15 +102,18 @@ fn claimed_rows(
     }
 }
 
-/// The rows of a path of the goal: one for each comparison, splits of whole variables among them, in order, as it was answered; where asked for, the denied goal, if
-/// the path is at an end at which the goal doesn't hold plainly; and for each UInt and UReal variable that occurs before, by
-/// number, that it isn't negative. Each is tightened. Bits is given exactly where a number of a row reaches 2^62 before or
-/// after it is tightened, or the constant's multiple 2^127. Want of memory is the one error.
+/// Returns the rows of `path`, each tightened to integers: a row for each answered comparison of
+/// numbers, splits included; if `denied`, and `path` is at an end at which the goal does not hold
+/// trivially, the denied goal; for each `UInt` and `UReal` variable that occurs before, in order,
+/// that it is not negative. Returns `Bits` exactly if a number of a row reaches 2^62 before or
+/// after it is tightened, or the product of the constant and its factor reaches 2^127.
 pub fn rows(alloc: Global, goal: &Goal, path: &[Taken], denied: bool) -> Result<RowList, AllocError>
     requires { IsPath (goal_of goal.now) (path_of path.now) }
-    ensures rows { IfOk result (λ r. Lists r (rows_of (goal_of goal.now) (path_of path.now) denied)) }
+    ensures rows { IfOk result
+        (λ r. Lists r (rows_of (goal_of goal.now) (path_of path.now) denied)) }
     ensures normal { IfOk result (λ r. AreRows r) }
-    ensures numeric { IsTypedGoal (goal_of goal.now) → IfOk result (λ r. AreNumericRows (goal_of goal.now).types r) }
+    ensures numeric { IsTypedGoal (goal_of goal.now)
+        → IfOk result (λ r. AreNumericRows (goal_of goal.now).types r) }
     ensures few { IfOk result (λ r. count_of r ≤ length path.now + 1 + length goal.now.vars.items) }
 {
     match claimed_rows(alloc, goal, path, denied)? {

@@ -1,4 +1,4 @@
-//! Questions and answers.
+//! Comparisons and answers.
 
 ghost use Rattle.std.specs.Prelude.{◌≡◌, IfOk, IsTrue};
 ghost use Rattle.linear_form.specs.PlainPaths.{atom_of};
@@ -8,23 +8,23 @@ use linear_values::Lin;
 use linear_values::lin::copy;
 use std::alloc::{AllocError, Global};
 
-/// A question about a state.
+/// A comparison.
 #[derive(Drop)]
 pub enum Atom {
     /// Whether a Boolean variable is true.
     Truth(u32),
-    /// Whether a linear value is at most 0 or, where the flag is true, below 0.
+    /// Whether a linear value is at most 0 or, if the flag is set, below 0.
     Row(Lin, bool),
 }
 
-/// A question, or a split of a whole variable, with its answer.
+/// A comparison, which may be a split of an integer variable, with its answer.
 #[derive(Drop)]
 pub struct Taken {
     pub atom: Atom,
     pub held: bool,
 }
 
-/// The same question again. Want of memory is the one error.
+/// Returns a copy of `atom`.
 pub fn copy_atom(alloc: Global, atom: &Atom) -> Result<Atom, AllocError>
     ensures { IfOk result (λ a. atom_of a ≡ atom_of atom.now) }
 {
@@ -34,7 +34,7 @@ pub fn copy_atom(alloc: Global, atom: &Atom) -> Result<Atom, AllocError>
     }
 }
 
-/// Whether a question is a comparison.
+/// Returns whether `atom` compares numbers.
 pub(crate) fn is_comparison(atom: &Atom) -> bool
     ensures { IsTrue result → IsComparison (atom_of atom.now) }
 {

@@ -2,7 +2,7 @@
 
 ghost use Rattle.linear_form.specs.Places.{PlacesStay};
 
-/// A place on a path is on each longer one.
+/// States that a place on a path is a place on each longer path.
 pub fn places_stay()
     ensures { PlacesStay }
 {}

@@ -1,4 +1,4 @@
-//! Places: evaluations of a goal that stand somewhere on a path, with what is evaluated next and what waits for it.
+//! Places: evaluations of a goal that have used some answers of a path.
 
 use crate::parts::{Outcome, Part};
 use crate::questions::Ask;
@@ -6,8 +6,9 @@ use std::alloc::Global;
 use std::marker::Model;
 use std::rc::Rc;
 
-/// A place of a path, at which an evaluation of a goal stands. Contracts see what is left to ask there, and how many answers of
-/// the path are behind it. A place is small, since walks hand it on at each question.
+/// A place on a path: an evaluation of a goal. Its model, `Standing`, is the tree of the
+/// comparisons still to be asked and the number of answers used. A place is one pointer, because
+/// walks move it at each comparison.
 #[derive(Drop)]
 pub struct Place {
     pub(crate) evaluation: Box<Evaluation>,
@@ -28,33 +29,32 @@ impl Model for Place {
     ghost invariant = { λ p. IsReadyEvaluation p.evaluation.value };
 }
 
-/// An evaluation that stands at a place of a path.
 #[derive(Clone, Drop)]
 pub(crate) struct Evaluation {
     pub focus: Focus,
-    /// What waits, the last one for the focus.
+    /// The waiting parts; the last one waits for the focus.
     pub frames: Vec<Frame>,
-    /// How many answers of the path are behind it.
+    /// The number of answers of the path that are used.
     pub at: usize,
 }
 
-/// What is evaluated next, or what the last frame gets.
+/// The part that is evaluated next, or the result that the last frame gets.
 #[derive(Clone, Drop)]
 pub(crate) enum Focus {
     Part(Rc<Part, Global>),
     Came(Outcome),
 }
 
-/// What waits for the outcome of a part.
+/// A part that waits for a result.
 #[derive(Clone, Drop)]
 pub(crate) enum Frame {
-    /// This part waits for its first one.
+    /// The part waits for the result of its first part.
     First(Rc<Part, Global>),
-    /// This part waits for its second one; the first one came to this.
+    /// The part waits for the result of its second part; the first part has the given result.
     Second(Rc<Part, Global>, Outcome),
 }
 
-/// What stands at the end of a path, and the place that the evaluation has reached.
+/// What is at the end of a path, and the place that the evaluation has reached.
 #[derive(Drop)]
 pub struct Reached {
     pub ask: Ask,

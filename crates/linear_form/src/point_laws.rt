@@ -2,20 +2,21 @@
 
 ghost use Rattle.linear_form.specs.PointLaws as law;
 
-/// A state with the truths of a path that meets the path's rows agrees with the path, and where the denied goal is among the
-/// rows, the goal fails in it.
+/// States that a state that has the truths of a path and satisfies its rows agrees with the path;
+/// if the denied goal is among the rows, the goal fails in the state.
 pub fn falsifying_points()
     ensures agree { law.PointsAgree }
     ensures falsify { law.PointsFalsify }
 {}
 
-/// A path of a typed goal asks for the truths of Booleans alone, and where the goal has its variables, of those.
+/// States that a path of a typed goal decides only Booleans, and only variables of the goal.
 pub fn truths_are_booleans()
     ensures booleans { law.TruthsAreBooleans }
     ensures variables { law.TruthsHaveVariables }
 {}
 
-/// Unsigned variables that occur in the rows of a path aren't negative where the rows are met.
+/// States that an unsigned variable that occurs in the rows of a path is not negative in a solution
+/// of the rows.
 pub fn unsigned_are_nonnegative()
     ensures { law.UnsignedAreNonnegative }
 {}

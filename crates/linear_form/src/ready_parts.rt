@@ -1,9 +1,10 @@
-//! The parts of a goal, made ready: what they come to before all answers is noted, and whether they surely ask a comparison.
+//! Partial evaluation of a goal: parts that ask no comparison are computed in advance.
 
 ghost use Rattle.std.specs.Prelude.{◌≡◌, IfOk, IfSome, IsTrue, map};
 ghost use Rattle.std.specs.Rc.{rc_value};
 ghost use Rattle.heylo_formula.specs.Goals.{goal_of};
-ghost use Rattle.linear_form.specs.internal.GoalParts.{AreParts, Compares, IsGoalPart, IsOver, IsReadyAs, TellsAtOnce};
+ghost use Rattle.linear_form.specs.internal.GoalParts.{AreParts, Compares, IsGoalPart, IsOver};
+ghost use Rattle.linear_form.specs.internal.GoalParts.{IsReadyAs, TellsAtOnce};
 ghost use Rattle.linear_form.specs.internal.LastingTrees.{Lasts};
 ghost use Rattle.linear_form.specs.internal.Parts.{asked_by_work, IsReady, IsReadyWork};
 ghost use Rattle.linear_form.specs.internal.PlainParts.{outcome_of, part_of, work_of};
@@ -19,10 +20,11 @@ use heylo_graph::{Graph, Node, NodeId};
 use std::alloc::{AllocError, Global};
 use std::rc::Rc;
 
-/// How many terms the values of a goal's parts have together at most: each first part of a sum of n variables has its terms again.
+/// The maximum number of terms of all values computed in advance. The limit is needed because each
+/// partial sum of n variables repeats the terms of the sum before it.
 const MOST_TERMS: usize = 262_144;
 
-/// The goal as a part, which comes to the values of both forms. Want of memory is the one error.
+/// Returns the part of the whole goal, whose result is the values of both forms.
 pub(crate) fn goal_part(alloc: Global, goal: &Goal) -> Result<Rc<Part, Global>, AllocError>
     ensures { IfOk result (λ p. IsGoalPart (goal_of goal.now) p.value) }
 {
@@ -35,7 +37,7 @@ pub(crate) fn goal_part(alloc: Global, goal: &Goal) -> Result<Rc<Part, Global>, 
     unsure(alloc, Work::Two(Operation::Ends, first, second))
 }
 
-/// The parts of the nodes, by their numbers.
+/// Returns the parts of the nodes of `graph`, in the order of their numbers.
 fn parts_of(alloc: Global, graph: &Graph) -> Result<Vec<Rc<Part, Global>>, AllocError>
     ensures { IfOk result (λ parts. AreParts graph.now (map rc_value parts.items)) }
 {
@@ -49,8 +51,8 @@ fn parts_of(alloc: Global, graph: &Graph) -> Result<Vec<Rc<Part, Global>>, Alloc
     Ok(parts)
 }
 
-/// The part that does this, over parts that are ready. Where it comes to something before all answers, this is noted, as far as there is
-/// room for the terms of the value. Want of memory is the one error.
+/// Returns the part of `work`, whose own parts are evaluated in advance already. If it has a result
+/// without any answer and `room` suffices for the terms of the result, the part is this result.
 fn ready_part(alloc: Global, work: Work, room: &mut usize) -> Result<Part, AllocError>
     requires { IsReadyWork (work_of work) }
     ensures { IfOk result (IsReadyAs (work_of work)) }
@@ -82,10 +84,12 @@ fn ready_part(alloc: Global, work: Work, room: &mut usize) -> Result<Part, Alloc
     }
 }
 
-/// The same, where a part of it asks a question, and what follows is known behind each answer: then it is this question.
+/// Returns `work`; or, if its last operand or its test is a comparison and `work` reduces to one
+/// part after each answer, this comparison with the two parts.
 fn with_question(alloc: Global, work: Work, room: &mut usize) -> Result<Work, AllocError>
     requires { IsReadyWork (work_of work) }
-    ensures { IfOk result (λ w. (asked_by_work (work_of w) ≡ asked_by_work (work_of work)) × IsReadyWork (work_of w)) }
+    ensures { IfOk result (λ w. (asked_by_work (work_of w) ≡ asked_by_work (work_of work))
+        × IsReadyWork (work_of w)) }
 {
     let asking = match &work {
         Work::Two(_, _, second) => second,
@@ -104,7 +108,7 @@ fn with_question(alloc: Global, work: Work, room: &mut usize) -> Result<Work, Al
     Ok(Work::Asks(Rc::clone(atom)?, one, other))
 }
 
-/// What follows, over a known part in place of the one that asks.
+/// Returns the part to which `work` reduces if `part` replaces its operand that is a comparison.
 fn over(
     alloc: Global,
     work: &Work,
@@ -113,7 +117,8 @@ fn over(
 ) -> Result<Option<Rc<Part, Global>>, AllocError>
     requires work { IsReadyWork (work_of work.now) }
     requires part { IsReady (part_of part.now) }
-    ensures { IfOk result (λ o. IfSome o (λ p. IsOver (work_of work.now) (part_of part.now) (part_of p.value))) }
+    ensures { IfOk result (λ o.
+        IfSome o (λ p. IsOver (work_of work.now) (part_of part.now) (part_of p.value))) }
 {
     match work {
         Work::Two(operation, first, _) => match both(alloc, operation, first, part, room) {
@@ -130,7 +135,8 @@ fn over(
     }
 }
 
-/// What comes before all answers of what is done with two parts, where these are known, and where there is room for it.
+/// Returns the result of `operation` on two known parts if it asks nothing and `room` suffices, or
+/// the comparison that it asks first, or `Stop::Bits` if nothing is known.
 fn both(
     alloc: Global,
     operation: &Operation,
@@ -155,7 +161,7 @@ fn both(
     }
 }
 
-/// Whether there is room for the terms of a value, which is taken then.
+/// Returns whether `room` suffices for the terms of `outcome`, and subtracts them from it.
 fn has_room(room: &mut usize, outcome: &Outcome) -> bool {
     let Outcome::Number(value) = outcome else {
         return true;
@@ -166,7 +172,7 @@ fn has_room(room: &mut usize, outcome: &Outcome) -> bool {
     fits
 }
 
-/// Whether what is done with two values is a comparison alone.
+/// Returns true only if `operation` is a comparison of two values.
 fn compares(operation: &Operation) -> bool
     ensures { IsTrue result → Compares operation.now }
 {
@@ -176,9 +182,10 @@ fn compares(operation: &Operation) -> bool
     }
 }
 
-/// Whether a part of what is done surely asks a comparison, so that it does.
+/// Returns true only if `work` surely asks a comparison of numbers.
 fn surely_asks(work: &Work) -> bool
-    ensures { IsReadyWork (work_of work.now) → IsTrue result → Lasts 1 (asked_by_work (work_of work.now)) }
+    ensures { IsReadyWork (work_of work.now) → IsTrue result
+        → Lasts 1 (asked_by_work (work_of work.now)) }
 {
     match work {
         Work::Asks(atom, yes, no) => is_comparison(atom) || (yes.asks && no.asks),

@@ -2,28 +2,29 @@
 
 ghost use Rattle.linear_form.specs.RowListLaws as law;
 
-/// The variables of the rows of a typed goal are numbers by their types.
+/// States that the variables of the rows of a typed goal have types of numbers.
 pub fn rows_are_numeric()
     ensures { law.RowsAreNumeric }
 {}
 
-/// The rows without the denied goal are among the rows with it, and so they are solvable where those are. The rows of the
-/// answers keep their places; the denied goal's stands behind them, and those of the signs follow in their order.
+/// States that the rows without the denied goal are among the rows with it, in the same order, and
+/// that the row of the denied goal follows those of the answers.
 pub fn denied_rows_are_more()
     ensures among { law.DeniedRowsAreMore }
     ensures solvable { law.DeniedRowsAreStronger }
     ensures places { law.DeniedGoalMakesRoom }
 {}
 
-/// The rows of a path's comparisons begin with those of each shorter path: there is one for each comparison that is answered.
+/// States that each answered comparison of numbers has one row, and that the rows of a path begin
+/// with the rows of each shorter path.
 pub fn path_rows_grow()
     ensures counted { law.PathRowsAreCounted }
     ensures first { law.FirstPathRows }
     ensures last { law.LastPathRow }
 {}
 
-/// Where the row of an answer stands on the path already, the path with this answer is kept as the path is. The path with the
-/// other answer has rows too: those of its answers, and then those of the signs.
+/// States that an answer whose row is already among the rows of a path keeps the path solvable, and
+/// what the rows of the path with the opposite answer are.
 pub fn repeated_rows_stand()
     ensures { law.RepeatedRowsStand }
 {}

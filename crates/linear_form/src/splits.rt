@@ -1,4 +1,4 @@
-//! Splits of whole variables.
+//! Splits of integer variables.
 
 ghost use Rattle.std.specs.Prelude.{◌≡◌, IfOk};
 ghost use Rattle.heyvl_num.specs.Rational.{◌*ʳ◌};
@@ -13,8 +13,8 @@ use linear_values::Lin;
 use linear_values::numbers::{minus_one, whole};
 use std::alloc::{AllocError, Global};
 
-/// The question whether a variable is at most a whole number. Past the last question of a path its answers split the path: a
-/// variable of type Int or UInt that is above the number is at least the next one. Want of memory is the one error.
+/// Returns the comparison `variable <= bound`. After the last comparison of a path it splits an
+/// `Int` or `UInt` variable, which is at most `bound` or at least `bound + 1`.
 pub fn split(alloc: Global, variable: u32, bound: i64) -> Result<Atom, AllocError>
     ensures { IfOk result (λ a. atom_of a ≡ split_at variable bound) }
 {
@@ -27,7 +27,6 @@ pub fn split(alloc: Global, variable: u32, bound: i64) -> Result<Atom, AllocErro
     Ok(Atom::Row(left, false))
 }
 
-/// The negative of a whole number.
 fn negative(n: i64) -> Frac
     ensures { result ≡ minus_oneʳ *ʳ whole_fraction n }
 {

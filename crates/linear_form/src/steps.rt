@@ -1,4 +1,4 @@
-//! The steps of an evaluation: a part has its turn, or the last one that waits gets what it waits for.
+//! The steps of an evaluation.
 
 ghost use Rattle.linear_form.specs.PlainPaths.{path_of};
 ghost use Rattle.linear_form.specs.internal.Evaluations.{IsReadyEvaluation, left_at, weight};
@@ -14,14 +14,15 @@ use linear_values::lin::copy_value;
 use std::alloc::Global;
 use std::rc::Rc;
 
-/// One step on from a place, or what the whole goal comes to. Where it stops, the place stays.
+/// Makes a step. Returns the values of both forms at the end; if it stops, `place` stays as it is.
 pub(crate) fn advance(
     alloc: Global,
     place: &mut Evaluation,
     path: &[Taken],
 ) -> Result<Option<Box<Ask>>, Stop>
     requires { IsReadyEvaluation place.old }
-    ensures { Steps (path_of path.now) (left_at place.old) place.old.at (weight place.old) place.new result }
+    ensures { Steps (path_of path.now) (left_at place.old) place.old.at
+        (weight place.old) place.new result }
 {
     match &place.focus {
         Focus::Part(part) => match &part.work {
