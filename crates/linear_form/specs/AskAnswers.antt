@@ -1,4 +1,4 @@
--- What the answers of ask say.
+-- The results of `ask`.
 use Rattle.std.specs.Prelude.{◌≡◌}
 use Rattle.linear_form.specs.Query.{Query}
 use Rattle.linear_form.specs.Questions.{Ends}
@@ -6,7 +6,8 @@ use Rattle.linear_values.specs.PlainValues.{linear_of}
 use Rattle.linear_form.specs.PlainPaths.{atom_of}
 use Rattle.linear_form.specs.declared.questions.Ask as K
 
--- What an answer says of the end of a path: the next question, the two values, or a number that is too large.
+-- `Answers a t`: the result `a` of the program describes the tree `t` at the end of a path: the
+-- next comparison, the two values, or an overflow.
 abbrev pub Answers : K.Ask → Query Ends → Type 0
 Answers (K.TheVariants.Decide q) (Query.ask r y n) = atom_of q ≡ r
 Answers (K.TheVariants.Decide q) (Query.done e) = ⊥

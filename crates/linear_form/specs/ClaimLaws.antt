@@ -1,4 +1,4 @@
--- What is proved of the claims of a path.
+-- Laws of the claims of a path.
 use Rattle.std.specs.Prelude.{◌≡◌, List, true, false, Some}
 use Rattle.heylo_formula.specs.Goals.{Goal, HoldsIn}
 use Rattle.heylo_formula.specs.State.{IsTyped, environment, number_of}
@@ -12,19 +12,29 @@ use Rattle.linear_rows.specs.Solutions.{MeetsAt}
 use Rattle.std.specs.List.{All}
 use Rattle.linear_values.specs.Claims.{AllClaimed}
 
--- What the answers of a path claim, and the signs of unsigned variables, holds in each state of the right types that agrees with
--- the path.
+-- The claims of a path's answers, and of the signs of unsigned variables, hold in each state of the
+-- right types that agrees with the path.
 abbrev pub AnswersClaimTruths : Type 0
-AnswersClaimTruths = (g : Goal) (s : List Val) (ps : List Taken) → IsTyped g.types s → Agrees (environment s) ps → AllClaimed (environment s) (claims_of g ps false)
+AnswersClaimTruths = (g : Goal) (s : List Val) (ps : List Taken) → IsTyped g.types s
+    → Agrees (environment s) ps → AllClaimed (environment s) (claims_of g ps false)
 
--- With the denied goal among the claims each holds where the goal fails.
+-- With the denied goal among them, the claims of a path hold in each state that agrees with the
+-- path and in which the goal fails.
 abbrev pub DenialsClaimTruths : Type 0
-DenialsClaimTruths = (g : Goal) (s : List Val) (ps : List Taken) → IsTypedGoal g → IsTyped g.types s → IsPath g ps → Agrees (environment s) ps → (HoldsIn g (environment s) → ⊥) → AllClaimed (environment s) (claims_of g ps true)
+DenialsClaimTruths = (g : Goal) (s : List Val) (ps : List Taken) → IsTypedGoal g → IsTyped g.types s
+    → IsPath g ps → Agrees (environment s) ps → (HoldsIn g (environment s) → ⊥)
+    → AllClaimed (environment s) (claims_of g ps true)
 
--- Each row of a path without the denied goal is met by each state of the right types that agrees with the path.
+-- Each state of the right types that agrees with a path satisfies the rows of the path without the
+-- denied goal.
 abbrev pub RowsAreMet : Type 0
-RowsAreMet = (g : Goal) (s : List Val) (ps : List Taken) (rows : List Row) → IsTyped g.types s → IsPath g ps → Agrees (environment s) ps → rows_of g ps false ≡ Some rows → All (MeetsAt (λ x. number_of (environment s x))) rows
+RowsAreMet = (g : Goal) (s : List Val) (ps : List Taken) (rows : List Row) → IsTyped g.types s
+    → IsPath g ps → Agrees (environment s) ps → rows_of g ps false ≡ Some rows
+    → All (MeetsAt (λ x. number_of (environment s x))) rows
 
--- With the denied goal each is met where the goal fails.
+-- Each state that agrees with a path and in which the goal fails satisfies the rows of the path
+-- with the denied goal.
 abbrev pub DeniedRowsAreMet : Type 0
-DeniedRowsAreMet = (g : Goal) (s : List Val) (ps : List Taken) (rows : List Row) → IsTypedGoal g → IsTyped g.types s → IsPath g ps → Agrees (environment s) ps → (HoldsIn g (environment s) → ⊥) → rows_of g ps true ≡ Some rows → All (MeetsAt (λ x. number_of (environment s x))) rows
+DeniedRowsAreMet = (g : Goal) (s : List Val) (ps : List Taken) (rows : List Row) → IsTypedGoal g
+    → IsTyped g.types s → IsPath g ps → Agrees (environment s) ps → (HoldsIn g (environment s) → ⊥)
+    → rows_of g ps true ≡ Some rows → All (MeetsAt (λ x. number_of (environment s x))) rows

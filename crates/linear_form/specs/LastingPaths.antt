@@ -1,4 +1,4 @@
--- Paths at which a goal's questions don't end. This project's own.
+-- Paths that are not at an end. This project's own.
 use Rattle.std.specs.Prelude.{◌≡◌, List}
 use Rattle.heylo_formula.specs.Goals.{Goal}
 use Rattle.linear_form.specs.Query.{Taken}
@@ -6,6 +6,7 @@ use Rattle.linear_form.specs.Query.Query.{done}
 use Rattle.linear_form.specs.Questions.{Ends}
 use Rattle.linear_form.specs.Paths.{end_at}
 
--- There are no values at the end of the path: a question stands there, or a number is too large.
+-- `IsNoEnd g ps`: at the end of the path `ps` there are no values: a comparison is left, or a
+-- number overflows.
 abbrev pub IsNoEnd : Goal → List Taken → Type 0
 IsNoEnd g ps = (e : Ends) → end_at g ps ≡ done e → ⊥

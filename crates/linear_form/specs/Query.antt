@@ -1,60 +1,68 @@
--- Trees of questions about a state: a result, a number that is too large, or a question with what follows each answer.
--- This project's own.
-use Rattle.std.specs.Prelude.{ℕ, List, [], ◌∷◌, ◌++◌, Bool, true, false, ◌==◌, Option, Some, None, if◌then◌else◌}
+-- Trees of comparisons about a state: a result, an overflow, or a comparison with the subtrees of
+-- both answers. This project's own.
+use Rattle.std.specs.Prelude.{ℕ, List, [], ◌∷◌, ◌++◌, Bool, true, false, ◌==◌, Option, Some, None}
+use Rattle.std.specs.Prelude.{if◌then◌else◌}
 use Rattle.heylo_formula.specs.State.{Env, truth_of}
 use Rattle.linear_values.specs.Lin.{Lin, at}
 use Rattle.linear_rows.specs.Numbers.{is_negative}
 
--- A question: whether a Boolean variable is true, or whether a linear value is at most 0 or, where strict, below 0.
+-- A comparison: `truth x`, whether the Boolean `x` is true, or `row a strict`, whether the linear
+-- value `a` is at most 0 or, if `strict`, below 0.
 pub data Atom : Type 0 where
   truth : ℕ → Atom
   row : Lin → Bool → Atom
 
--- A tree of questions: a result, a number that is too large, or a question with what follows yes and what follows no.
+-- A tree of comparisons: `done a` has the result `a`, `bits` is an overflow, and `ask q y n` is the
+-- comparison `q` with the subtree `y` if it holds and `n` if it does not.
 pub data Query (A : Type 0) : Type 0 where
   done : A → Query A
   bits : Query A
   ask : Atom → Query A → Query A → Query A
 
--- What follows each result.
+-- `next t f`: the tree `t` with each result `a` replaced by the tree `f a`.
 abbrev pub next : {A B : Type 0} → Query A → (A → Query B) → Query B
 next (Query.done a) f = f a
 next Query.bits f = Query.bits
 next (Query.ask q y n) f = Query.ask q (next y f) (next n f)
 
--- What a state answers to a question.
+-- `holds_at q s`: the answer of the state `s` to the comparison `q`.
 abbrev pub holds_at : Atom → Env → Bool
 holds_at (Atom.truth x) s = truth_of (s x)
 holds_at (Atom.row a strict) s = is_negative (at a s) strict
 
--- An answered question.
+-- An answered comparison.
 pub record Taken : Type 0 where
   pub atom : Atom
   pub held : Bool
 
--- What is known of the Boolean x once a question is answered: the answer where it is about x, else what is known without it.
+-- `known_by x q held other`: the truth of the Boolean `x` after the comparison `q` is answered with
+-- `held`: this answer if `q` is about `x`, otherwise `other`.
 abbrev pub known_by : ℕ → Atom → Bool → Option Bool → Option Bool
 known_by x (Atom.truth y) held other = if x == y then Some held else other
 known_by x (Atom.row a strict) held other = other
 
--- The truth of a Boolean variable that a path has decided.
+-- `known x ps`: the truth of the Boolean `x` if the path `ps` has decided it.
 abbrev pub known : ℕ → List Taken → Option Bool
 known x [] = None
 known x (p ∷ ps) = known_by x p.atom p.held (known x ps)
 
--- A path with one more answer.
+-- `onto ps q held`: the path `ps` with one more answer, `held`, to the comparison `q`.
 abbrev pub onto : List Taken → Atom → Bool → List Taken
 onto ps q held = ps ++ (record { atom = q; held = held } ∷ [])
 
--- What follows a known truth; where it isn't known, the question.
+-- `unless_known b y n asked`: `y` or `n` if the truth `b` is known, otherwise `asked`.
 abbrev pub unless_known : {A : Type 0} → Option Bool → Query A → Query A → Query A → Query A
 unless_known (Some true) y n asked = y
 unless_known (Some false) y n asked = n
 unless_known None y n asked = asked
 
--- The tree after a path, where a Boolean that is decided is known and not asked again. A comparison is asked again.
+-- `once ps t`: the tree `t` after the path `ps`, in which a Boolean that is decided is not asked
+-- again. A comparison of numbers is asked again.
 abbrev pub once : {A : Type 0} → List Taken → Query A → Query A
 once ps (Query.done a) = Query.done a
 once ps Query.bits = Query.bits
-once ps (Query.ask (Atom.row a strict) y n) = Query.ask (Atom.row a strict) (once (onto ps (Atom.row a strict) true) y) (once (onto ps (Atom.row a strict) false) n)
-once ps (Query.ask (Atom.truth x) y n) = unless_known (known x ps) (once ps y) (once ps n) (Query.ask (Atom.truth x) (once (onto ps (Atom.truth x) true) y) (once (onto ps (Atom.truth x) false) n))
+once ps (Query.ask (Atom.row a strict) y n) = Query.ask (Atom.row a strict)
+    (once (onto ps (Atom.row a strict) true) y) (once (onto ps (Atom.row a strict) false) n)
+once ps (Query.ask (Atom.truth x) y n) = unless_known (known x ps) (once ps y) (once ps n)
+    (Query.ask (Atom.truth x) (once (onto ps (Atom.truth x) true) y)
+    (once (onto ps (Atom.truth x) false) n))

@@ -1,5 +1,6 @@
--- What is proved of the rows of a path.
-use Rattle.std.specs.Prelude.{◌≡◌, ℕ, ◌+◌, List, take, [], ◌∷◌, ◌++◌, length, Bool, true, false, not, Some, is_some}
+-- Laws of the rows of a path.
+use Rattle.std.specs.Prelude.{◌≡◌, ℕ, ◌+◌, List, take, [], ◌∷◌, ◌++◌, length, Bool, true, false}
+use Rattle.std.specs.Prelude.{not, Some, is_some}
 use Rattle.std.specs.List.{All, Contains}
 use Rattle.heylo_formula.specs.Goals.{Goal}
 use Rattle.linear_form.specs.Query.{Atom, Taken, onto}
@@ -12,18 +13,20 @@ use Rattle.linear_rows.specs.Solutions.{IsSolvable}
 use Rattle.linear_form.specs.Cells.{IsKeptPath}
 use Rattle.heylo_formula.specs.TypedGoals.{IsTypedGoal}
 
--- Each variable of a row of a typed goal is a number by its type.
+-- Each variable of a row of a typed goal has a type of numbers.
 abbrev pub RowsAreNumeric : Type 0
-RowsAreNumeric = (g : Goal) (ps : List Taken) (denied : Bool) (rows : List Row) → IsTypedGoal g → IsPath g ps → rows_of g ps denied ≡ Some rows → All (IsNumericRow g.types) rows
+RowsAreNumeric = (g : Goal) (ps : List Taken) (denied : Bool) (rows : List Row) → IsTypedGoal g
+    → IsPath g ps → rows_of g ps denied ≡ Some rows → All (IsNumericRow g.types) rows
 
--- The first rows stand among the others, in their order.
+-- `StandAmong rs ss`: the rows `rs` are a subsequence of the rows `ss`.
 pub data StandAmong : List Row → List Row → Type 0 where
   none : StandAmong [] []
   here : (r : Row) (rs ss : List Row) → StandAmong rs ss → StandAmong (r ∷ rs) (r ∷ ss)
   past : (s : Row) (rs ss : List Row) → StandAmong rs ss → StandAmong rs (s ∷ ss)
 
--- Where the rows of a path stand once the denied goal is among them: those of the answers where they stood, then the denied
--- goal's, then those of the signs, where further ones may stand between.
+-- `MakesRoom answers rows denied`: the lists `rows` and `denied` begin with the same `answers`
+-- rows. In `denied`, the row of the denied goal follows. The rest of `rows`, the signs, is a
+-- subsequence of the rest of `denied`.
 pub record MakesRoom (answers : ℕ) (rows denied : List Row) : Type 0 where
   pub first : List Row
   pub denied_goal : Row
@@ -34,36 +37,51 @@ pub record MakesRoom (answers : ℕ) (rows denied : List Row) : Type 0 where
   pub denied_split : denied ≡ first ++ (denied_goal ∷ more_signs)
   pub among : StandAmong signs more_signs
 
--- The denied goal stands behind the rows of the answers, wherever something denies the goal.
+-- If the goal can be denied at the end of a path, the row of the denied goal follows the rows of
+-- the answers.
 abbrev pub DeniedGoalMakesRoom : Type 0
-DeniedGoalMakesRoom = (g : Goal) (ps : List Taken) (rows denied : List Row) → is_some (denial_at g.upper (end_at g ps)) ≡ true → rows_of g ps false ≡ Some rows → rows_of g ps true ≡ Some denied → MakesRoom (length (path_claims ps)) rows denied
+DeniedGoalMakesRoom = (g : Goal) (ps : List Taken) (rows denied : List Row)
+    → is_some (denial_at g.upper (end_at g ps)) ≡ true → rows_of g ps false ≡ Some rows
+    → rows_of g ps true ≡ Some denied → MakesRoom (length (path_claims ps)) rows denied
 
 -- The rows without the denied goal are among those with it.
 abbrev pub DeniedRowsAreMore : Type 0
-DeniedRowsAreMore = (g : Goal) (ps : List Taken) (rows denied : List Row) → rows_of g ps false ≡ Some rows → rows_of g ps true ≡ Some denied → All (Contains denied) rows
+DeniedRowsAreMore = (g : Goal) (ps : List Taken) (rows denied : List Row)
+    → rows_of g ps false ≡ Some rows → rows_of g ps true ≡ Some denied → All (Contains denied) rows
 
--- So they are solvable where those are.
+-- If the rows with the denied goal are solvable, so are those without it.
 abbrev pub DeniedRowsAreStronger : Type 0
-DeniedRowsAreStronger = (g : Goal) (ps : List Taken) (rows denied : List Row) → rows_of g ps false ≡ Some rows → rows_of g ps true ≡ Some denied → IsSolvable denied → IsSolvable rows
+DeniedRowsAreStronger = (g : Goal) (ps : List Taken) (rows denied : List Row)
+    → rows_of g ps false ≡ Some rows → rows_of g ps true ≡ Some denied → IsSolvable denied
+    → IsSolvable rows
 
--- There is a row for each comparison.
+-- A path has one row for each answered comparison of numbers.
 abbrev pub PathRowsAreCounted : Type 0
-PathRowsAreCounted = (g : Goal) (ps : List Taken) (rows : List Row) → ArePathRows g ps rows → length rows ≡ length (path_claims ps)
+PathRowsAreCounted = (g : Goal) (ps : List Taken) (rows : List Row) → ArePathRows g ps rows
+    → length rows ≡ length (path_claims ps)
 
--- The rows of a shorter path come first.
+-- The rows of a path begin with the rows of each shorter path.
 abbrev pub FirstPathRows : Type 0
-FirstPathRows = (g : Goal) (ps qs : List Taken) (rows : List Row) → ArePathRows g (ps ++ qs) rows → ArePathRows g ps (take (length (path_claims ps)) rows)
+FirstPathRows = (g : Goal) (ps qs : List Taken) (rows : List Row) → ArePathRows g (ps ++ qs) rows
+    → ArePathRows g ps (take (length (path_claims ps)) rows)
 
--- One more answer has one more row, or none where it is to the truth of a variable.
+-- One more answer adds one row, or none if it is the truth of a Boolean.
 abbrev pub LastPathRow : Type 0
-LastPathRow = (ps : List Taken) (q : Atom) (held : Bool) → length (path_claims (onto ps q held)) ≡ length (path_claims ps) + length (answer_claims q held)
+LastPathRow = (ps : List Taken) (q : Atom) (held : Bool)
+    → length (path_claims (onto ps q held)) ≡ length (path_claims ps)
+    + length (answer_claims q held)
 
--- The rows of a path without the denied goal begin with these.
+-- `HasFirstRows g ps first`: the rows of the path `ps` without the denied goal begin with `first`.
 pub record HasFirstRows (g : Goal) (ps : List Taken) (first : List Row) : Type 0 where
   pub signs : List Row
   pub are_rows : rows_of g ps false ≡ Some (first ++ signs)
 
--- Where the row of an answer stands on the path already, the path with this answer is kept as the path is, and the rows of the path
--- with the other answer are those of its answers, and then those of the signs.
+-- Let the path `ps` have solvable rows, and let the row of one more answer be among them. Then the
+-- rows of the path with this answer are solvable too. The rows of the path with the opposite answer
+-- are those of its answers, followed by those of the signs.
 abbrev pub RepeatedRowsStand : Type 0
-RepeatedRowsStand = (g : Goal) (ps : List Taken) (q : Atom) (held : Bool) (rows : List Row) (r other : Row) → ArePathRows g ps rows → ArePathRows g (onto ps q held) (rows ++ (r ∷ [])) → ArePathRows g (onto ps q (not held)) (rows ++ (other ∷ [])) → Contains rows r → IsKeptPath g ps → IsKeptPath g (onto ps q held) × HasFirstRows g (onto ps q (not held)) (rows ++ (other ∷ []))
+RepeatedRowsStand = (g : Goal) (ps : List Taken) (q : Atom) (held : Bool) (rows : List Row)
+    (r other : Row) → ArePathRows g ps rows → ArePathRows g (onto ps q held) (rows ++ (r ∷ []))
+    → ArePathRows g (onto ps q (not held)) (rows ++ (other ∷ [])) → Contains rows r
+    → IsKeptPath g ps → IsKeptPath g (onto ps q held)
+    × HasFirstRows g (onto ps q (not held)) (rows ++ (other ∷ []))

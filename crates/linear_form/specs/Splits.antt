@@ -1,5 +1,5 @@
--- Splits of whole variables: past the last question of a path a variable of type Int or UInt is at most a whole number, or it is at
--- least the next one. This project's own.
+-- Splits of integer variables: after the last comparison of a path, an `Int` or `UInt` variable is
+-- at most an integer, or at least the next one. This project's own.
 use Rattle.std.specs.Prelude.{◌≡◌, ℕ, ℤ, List, true, false}
 use Rattle.heyvl_num.specs.Rounding.{whole}
 use Rattle.heylo_formula.specs.declared.types.Ty.{Ty}
@@ -8,11 +8,11 @@ use Rattle.linear_rows.specs.VariableTypes.{is_integral}
 use Rattle.linear_values.specs.Lin.{constant, variable, minus}
 use Rattle.linear_form.specs.Query.{Atom, Taken}
 
--- Is the variable at most the whole number?
+-- `split_at x m`: the comparison `x <= m`, written `x - m <= 0`.
 abbrev pub split_at : ℕ → ℤ → Atom
 split_at x m = Atom.row (minus (variable x) (constant (whole m))) false
 
--- The answer is to a split of a variable of type Int or UInt.
+-- `IsSplit types p`: `p` answers a split of a variable of type `Int` or `UInt`.
 pub record IsSplit (types : List Ty) (p : Taken) : Type 0 where
   pub var : ℕ
   pub bound : ℤ

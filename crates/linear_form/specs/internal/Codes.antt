@@ -1,6 +1,8 @@
--- Trees of questions and standings as trees of numbers, by which a proof tells them apart.
+-- Injective encodings of trees of comparisons and of `Standing` as trees of numbers, by which
+-- proofs distinguish them.
 use Rattle.std.specs.Prelude.{◌≡◌, ◌⊎◌, ℕ, ℤ, Bool}
-use Rattle.std.specs.Coded.{Coded, code_by, coded×, coded⊎, coded_ℕ, coded_ℤ, coded_bool, coded_list, coded_option}
+use Rattle.std.specs.Coded.{Coded, code_by, coded×, coded⊎, coded_ℕ, coded_ℤ, coded_bool}
+use Rattle.std.specs.Coded.{coded_list, coded_option}
 use Rattle.std.proofs.Common.{refl, ap, inl, inr}
 use base.Stored.{Gv, gnil, gnum, gcons}
 use Rattle.heyvl_num.specs.Rational.{Rational, ratio}
@@ -12,10 +14,13 @@ use Rattle.linear_form.specs.Questions.{Ends}
 use Rattle.linear_form.specs.Standings.{Standing}
 
 abbrev rational_code : Coded Rational
-rational_code = code_by (ℤ × ℕ) (coded× coded_ℤ coded_ℕ) (λ x. (x.num, x.den)) (λ p. ratio p.0 p.1) ratio_parts
+rational_code = code_by (ℤ × ℕ) (coded× coded_ℤ coded_ℕ) (λ x. (x.num, x.den))
+    (λ p. ratio p.0 p.1) ratio_parts
 
 abbrev lin_code : Coded Lin
-lin_code = code_by (Terms × Rational) (coded× (coded_list (coded× coded_ℕ rational_code)) rational_code) (λ a. (a.terms, a.rest)) (λ p. record { terms = p.0; rest = p.1 }) (λ _. refl)
+lin_code = code_by (Terms × Rational)
+    (coded× (coded_list (coded× coded_ℕ rational_code)) rational_code) (λ a. (a.terms, a.rest))
+    (λ p. record { terms = p.0; rest = p.1 }) (λ _. refl)
 
 abbrev ends_code : Coded Ends
 ends_code = coded× (coded_option lin_code) (coded_option lin_code)
@@ -33,7 +38,8 @@ together_parts (Atom.truth x) = refl
 together_parts (Atom.row a strict) = refl
 
 abbrev atom_code : Coded Atom
-atom_code = code_by (ℕ ⊎ (Lin × Bool)) (coded⊎ coded_ℕ (coded× lin_code coded_bool)) parts together together_parts
+atom_code = code_by (ℕ ⊎ (Lin × Bool))
+    (coded⊎ coded_ℕ (coded× lin_code coded_bool)) parts together together_parts
 
 abbrev first : Gv → Gv
 first gnil = gnil
@@ -46,7 +52,7 @@ second (gnum n) = gnil
 second (gcons a b) = b
 
 module _ {A : Type 0} (c : Coded A) where
-  -- A tree of questions, as a tree of numbers.
+  -- `tree t`: the tree of comparisons `t` as a tree of numbers.
   pub tree : Query A → Gv
   tree (done a) = gcons (gnum 0) (c.code a)
   tree bits = gnil
@@ -62,11 +68,15 @@ module _ {A : Type 0} (c : Coded A) where
   tree_one bits (ask r z m) e = absurd (cc)
   tree_one (ask q y n) (done b) e = absurd (cc)
   tree_one (ask q y n) bits e = absurd (cc)
-  tree_one (ask q y n) (ask r z m) e = λ i. ask (atom_code.inj q r (ap (λ g. second (first g)) e) i) (tree_one y z (ap (λ g. first (second g)) e) i) (tree_one n m (ap (λ g. second (second g)) e) i)
+  tree_one (ask q y n) (ask r z m) e = λ i.
+      ask (atom_code.inj q r (ap (λ g. second (first g)) e) i)
+      (tree_one y z (ap (λ g. first (second g)) e) i)
+      (tree_one n m (ap (λ g. second (second g)) e) i)
 
   abbrev query_code : Coded (Query A)
   query_code = record { code = tree; inj = tree_one }
 
--- A standing, as the pair of its fields.
+-- The encoding of a `Standing`, as the pair of its fields.
 abbrev pub standing_code : Coded Standing
-standing_code = code_by (Query Ends × ℕ) (coded× (query_code ends_code) coded_ℕ) (λ s. (s.left, s.at)) (λ p. record { left = p.0; at = p.1 }) (λ _. refl)
+standing_code = code_by (Query Ends × ℕ) (coded× (query_code ends_code) coded_ℕ)
+    (λ s. (s.left, s.at)) (λ p. record { left = p.0; at = p.1 }) (λ _. refl)

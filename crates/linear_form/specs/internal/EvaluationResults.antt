@@ -1,4 +1,4 @@
--- What the program's evaluation gives, told in plain words.
+-- The results of the program's evaluation, as those of the definitions.
 use Rattle.std.specs.Prelude.{◌≡◌, Bool, Result, Ok, Err}
 use Rattle.linear_values.specs.Lin.{Linear}
 use Rattle.linear_form.specs.internal.Run.{Evaluation}
@@ -13,7 +13,8 @@ Stops (S.TheVariants.Decide q) o = o ≡ Evaluation.decide (atom_of q.value)
 Stops S.TheVariants.Bits o = o ≡ Evaluation.bits
 Stops (S.TheVariants.Memory e) o = Unit {0}
 
--- The call gives what stands there, or there was no memory.
+-- `Gives r o`: the result `r` of the program is the result `o` of the definition, unless memory ran
+-- out.
 abbrev pub Gives : Result F.Found S.Stop → Evaluation Linear → Type 0
 Gives (Ok r) o = o ≡ Evaluation.value (linear_of r.value) r.next
 Gives (Err e) o = Stops e o

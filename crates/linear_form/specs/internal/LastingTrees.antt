@@ -1,9 +1,10 @@
--- Trees of questions that surely ask so many comparisons.
+-- Trees that surely ask a number of comparisons of numbers.
 use Prim.Native.Nat.{zero, suc}
 use Rattle.std.specs.Prelude.{ℕ}
 use Rattle.linear_form.specs.Query.{Query, Atom}
 
--- Each way to a result passes at least so many comparisons. The truth of a Boolean may be known already, and doesn't count.
+-- `Lasts k t`: each way to a result of the tree `t` passes at least `k` comparisons of numbers.
+-- Booleans do not count, because they may be decided already.
 unfoldable pub Lasts : {A : Type 0} → ℕ → Query A → Type 0
 Lasts zero t = Unit {0}
 Lasts (suc k) (Query.done a) = ⊥
@@ -11,7 +12,7 @@ Lasts (suc k) Query.bits = Unit {0}
 Lasts (suc k) (Query.ask (Atom.row a strict) y n) = Lasts k y × Lasts k n
 Lasts (suc k) (Query.ask (Atom.truth x) y n) = Lasts (suc k) y × Lasts (suc k) n
 
--- A question that compares a linear value with 0.
+-- `IsComparison q`: the comparison `q` is one of numbers.
 abbrev pub IsComparison : Atom → Type 0
 IsComparison (Atom.row a strict) = Unit {0}
 IsComparison (Atom.truth x) = ⊥

@@ -1,4 +1,4 @@
--- Paths whose comparisons are of values with growing terms and without zeros.
+-- Paths whose comparisons are of values with increasing variables and without zero coefficients.
 use Rattle.std.specs.Prelude.{List, [], ◌∷◌}
 use Rattle.linear_values.specs.Lin.{AreNormal}
 use Rattle.linear_form.specs.Query.{Atom, Taken}
