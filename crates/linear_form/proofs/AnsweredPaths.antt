@@ -1,4 +1,4 @@
--- A path with the answer to the question that stands at its end.
+-- A path with the answer to the next comparison.
 use Rattle.std.proofs.Common.{◌≡◌, List, [], ◌∷◌, ◌++◌, ap, sym, subst, refl, ◌∙◌, Bool}
 use Rattle.heylo_formula.specs.Goals.{Goal}
 use Rattle.linear_form.specs.Query.{Query, Taken}

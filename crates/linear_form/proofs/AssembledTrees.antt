@@ -1,4 +1,4 @@
--- Trees of questions that are put together part by part.
+-- Trees of comparisons, assembled part by part.
 use Rattle.std.proofs.Common.{◌≡◌, refl, sym, ap, ap₂, ◌∙◌, Bool}
 use Rattle.linear_form.specs.Query.{Query, next}
 use Rattle.linear_form.specs.Query.Query.{done, bits, ask}
@@ -20,7 +20,6 @@ next_assoc (ask q y n) f g = ap₂ (ask q) (next_assoc y f g) (next_assoc n f g)
 pub of_values : (q r : Query Linear) (f : Linear → Linear → Query Result) → next (valued q) (λ x. next (valued r) (λ y. of_number (λ a. of_number (f a) y) x)) ≡ both q r f
 of_values q r f = next_assoc q _ _ ∙ next_cong q _ _ (λ x. next_assoc r _ _)
 
--- a form or a condition with one part or two
 pub one_valued : (q : Query Linear) (f : Linear → Query Linear) → valued (next q f) ≡ next (valued q) (of_number (λ x. valued (f x)))
 one_valued q f = next_assoc q f _ ∙ sym (next_assoc q _ _)
 
@@ -36,6 +35,5 @@ truth_valued q f = next_assoc q f _ ∙ sym (next_assoc q _ _)
 pub truth_told : (q : Query Bool) (f : Bool → Query Bool) → told (next q f) ≡ next (told q) (of_bool (λ t. told (f t)))
 truth_told q f = next_assoc q f _ ∙ sym (next_assoc q _ _)
 
--- the stated form, and then the found one
 pub all_asked : (q r : Query Linear) → next (next (valued q) (λ x. next (valued r) (λ y. of_number (λ a. of_number (λ b. done (Result.ends (a, b))) y) x))) ended ≡ both q r (λ x y. done (x, y))
 all_asked q r = ap (λ t. next t ended) (of_values q r (λ x y. done (Result.ends (x, y)))) ∙ next_assoc q _ ended ∙ next_cong q _ _ (λ x. next_assoc r _ ended)

@@ -1,4 +1,4 @@
--- A row that a state's values meet claims what its inequality says: its constant is rounded up.
+-- If the values of a state satisfy a row, they satisfy its inequality: the constant is rounded up.
 use Rattle.std.proofs.Common.{◌≡◌, ℕ, List, [], ◌∷◌, refl, sym, ap, ◌∙◌, arith, lit<, subst, Bool, true, false, not, cond}
 use Rattle.std.specs.Prelude.{ℤ, pos, negsuc, ◌+ℤ◌, ◌≤ℤ◌, Option, Some, None}
 use borrow.Author.Differences.{ints}
@@ -35,7 +35,6 @@ negative_is true x h = ap not h.holds
 inverse_positive : (w : Rational) (p : IsPositive w) → IsPositive p.inverse
 inverse_positive w p = record { above = p.inverse_above; inverse = w; inverse_above = p.above; one = *ʳ_comm w p.inverse ∙ p.one }
 
--- A positive factor can be taken away.
 divided : (w x : Rational) (strict : Bool) → IsPositive w → IsBelowZero strict (w *ʳ x) → is_negative x strict ≡ true
 divided w x strict p h = negative_is strict x (subst (IsBelowZero strict) (sym (*ʳ_assoc p.inverse w x) ∙ ap (λ y. y *ʳ x) p.one ∙ one-*ʳ x) (keeps_sign p.inverse (w *ʳ x) strict (inverse_positive w p) (negative_is strict (w *ʳ x) h)))
 
@@ -70,7 +69,7 @@ sign_claims c strict h = go c.num refl strict h
     go (negsuc m) k false h = (at_most c (omega (arith, ints, k))).holds
     go (negsuc m) k true h = ap not (not_at_least c m k)
 
--- ---- Over whole variables the constant is rounded up
+-- ---- Over integer variables the constant is rounded up
 
 rounded_claims : (x c : Rational) (strict : Bool) → x +ʳ whole (rounded strict c) ≤ʳ zeroʳ → IsBelowZero strict (x +ʳ c)
 rounded_claims x c false h = ≤ʳ_trans _ _ _ (+ʳ_mono _ _ _ _ (≤ʳ_refl x) (ceil-is c).at_least) h
@@ -89,7 +88,7 @@ rounded_claims x c true h = record { holds = go (leqʳ zeroʳ (x +ʳ c)) refl }
     go true k = absurd (never (record { holds = k }))
     go false k = k
 
--- ---- With a UReal the whole row is brought to whole numbers
+-- ---- With a UReal the row is scaled to integers
 
 exact_claims : (w c : Rational) (ts : Terms) (s : Env) (strict : Bool) → IsPositive w → AreWholeTimes w ts → IsBelowZero strict (sum_of (numbers s) (whole_terms (ratio (pos (w *ʳ c).den) 1 *ʳ w) ts) +ʳ whole (w *ʳ c).num) → is_negative (total ts s +ʳ c) strict ≡ true
 exact_claims w c ts s strict p h e = divided (ratio (pos (w *ʳ c).den) 1 *ʳ w) (total ts s +ʳ c) strict (positive-* _ w (positive_ratio (w *ʳ c).den 1 (w *ʳ c).positive (lit< tt)) p) (subst (IsBelowZero strict) (sym (sym (value_scaled (ratio (pos (w *ʳ c).den) 1 *ʳ w) ts c s (further_whole (w *ʳ c).den w ts h)) ∙ ap (λ x. sum_of (numbers s) (whole_terms (ratio (pos (w *ʳ c).den) 1 *ʳ w) ts) +ʳ x) (*ʳ_assoc (ratio (pos (w *ʳ c).den) 1) w c ∙ sym (cleared (w *ʳ c))))) e)
@@ -109,7 +108,6 @@ tightened_claims : (types : Types) (s : Env) (k : Claim) (r : Row) → AreNonzer
 unfolding tightened
 tightened_claims types s k r n e m = record { claimed = row_claims types s k.left.terms k.left.rest k.strict n (subst (MeetsAt (numbers s)) (sym (taken_row _ (tight_row types k.left.terms k.left.rest k.strict) r e)) m) }
 
--- The claims of rows that are met hold.
 pub rows_claim : (types : Types) (s : Env) (ks : List Claim) (rows : List Row) → AllNonzero ks → all_tightened types ks ≡ Some rows → All (MeetsAt (numbers s)) rows → AllClaimed s ks
 rows_claim types s [] rows n e m = tt
 rows_claim types s (k ∷ ks) rows n e m = go (tightened types k) refl (all_tightened types ks) refl e (λ qs. rows_claim types s ks qs n.1)

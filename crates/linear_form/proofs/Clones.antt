@@ -1,4 +1,4 @@
--- Outcomes and evaluations that are copied.
+-- Copies of results and evaluations.
 use Rattle.std.proofs.Common.{◌≡◌, List, [], ◌∷◌, refl, sym, subst, ap, ap₂, ◌∙◌}
 use Rattle.std.specs.List.{AllZip}
 use Rattle.linear_values.specs.PlainValues.{linear_of}

@@ -40,7 +40,6 @@ sized_constant (Some a) h = go (is_sized a)
     go true = h
     go false = tt
 
--- one of two values, by a question
 picked : (a : Lin) (strict : Bool) (x y : Linear) → IsConstant x → IsConstant y → EachResult IsConstant (next (is_below a strict) (λ t. done (cond t x y)))
 picked a strict x y h k = each_after (is_below a strict) _ IsConstant (λ t. of_two IsConstant t x y h k)
 

@@ -1,4 +1,4 @@
--- Where the rows of a path stand once the denied goal is among them.
+-- The places of the rows of a path among its rows with the denied goal.
 use Rattle.std.proofs.Common.{◌≡◌, ℕ, List, [], ◌∷◌, ◌++◌, length, refl, sym, ap, ◌∙◌, subst, Bool, true, false, cond, ◌&&◌}
 use Rattle.std.specs.Prelude.{Option, Some, None, is_some}
 use Rattle.std.proofs.lemmas.List.{append-nil}
@@ -13,7 +13,7 @@ use Rattle.linear_form.specs.RowListLaws.{StandAmong, MakesRoom, DeniedGoalMakes
 use Rattle.linear_form.proofs.DeniedRows.{occurs_more}
 use Rattle.linear_form.proofs.RowsOfClaims.{joined, tightened_append}
 
--- ---- Claims among others
+-- ---- Subsequences of claims
 
 data Among : List Claim → List Claim → Type 0 where
   none : Among [] []
@@ -41,7 +41,7 @@ signs_among types ks ls (suc n) = among_append (sign_claims types ks n) (sign_cl
 
 -- ---- Their rows
 
--- a row put before the rows of the other claims
+-- A row before the rows of the remaining claims.
 record FirstRow (types : Types) (k : Claim) (ks : List Claim) (rows : List Row) : Type 0 where
   row : Row
   others : List Row
@@ -70,7 +70,7 @@ rows_among types _ _ rows more (Among.past l ks ls a) e f =
     let m = first_row types l ls more f in
     subst (λ z. StandAmong rows z) (sym m.whole) (StandAmong.past m.row rows m.others (rows_among types ks ls rows m.others a e m.are_others))
 
--- the rows of some claims, and those of further ones
+-- The rows of some claims, followed by those of further claims.
 pub record TwoParts (types : Types) (ks ls : List Claim) (rows : List Row) : Type 0 where
   pub first : List Row
   pub second : List Row
@@ -90,7 +90,7 @@ tightened_length : (types : Types) (ks : List Claim) (rows : List Row) → all_t
 tightened_length types [] rows e = let i : [] ≡ rows = cc in ap length (sym i)
 tightened_length types (k ∷ ks) rows e = let h = first_row types k ks rows e in ap length h.whole ∙ ap suc (tightened_length types ks h.others h.are_others)
 
--- ---- The denied goal behind the answers
+-- ---- The denied goal after the answers
 
 room : (types : Types) (n : ℕ) (ks : List Claim) (d : Claim) (rows more : List Row) → all_tightened types ((ks ++ []) ++ sign_claims types (ks ++ []) n) ≡ Some rows → all_tightened types ((ks ++ (d ∷ [])) ++ sign_claims types (ks ++ (d ∷ [])) n) ≡ Some more → MakesRoom (length ks) rows more
 room types n ks d rows more e f =

@@ -16,7 +16,7 @@ use Rattle.linear_rows.specs.Row.{Row}
 use Rattle.linear_rows.specs.Solutions.{MeetsAt}
 use Rattle.linear_form.specs.RowListLaws.{DeniedRowsAreMore, DeniedRowsAreStronger}
 
--- ---- What holds of the row of each claim
+-- ---- A property of the row of each claim
 
 abbrev pub Gives : Types → (Row → Type 0) → List Claim → Type 0
 Gives types P [] = Unit {0}
@@ -79,7 +79,6 @@ signs_give types P ks ls (suc n) h = gives_append types P (sign_claims types ks 
 
 -- ---- The claims and the rows of a path
 
--- What holds of the rows with the denied goal holds of those without it.
 fewer_give : (g : Goal) (P : Row → Type 0) (ps : List Taken) → Gives (types_in g.types) P (claims_of g ps true) → Gives (types_in g.types) P (claims_of g ps false)
 fewer_give g P ps h = subst (λ ks. Gives (types_in g.types) P (with_signs g ks)) (sym (append-nil (path_claims ps))) (gives_append (types_in g.types) P (path_claims ps) (sign_claims (types_in g.types) (path_claims ps) (length g.types)) (gives_first (types_in g.types) P (path_claims ps) denied (gives_first (types_in g.types) P (path_claims ps ++ denied) _ h)) (signs_give (types_in g.types) P (path_claims ps) denied (length g.types) (gives_second (types_in g.types) P (path_claims ps ++ denied) _ h)))
   where

@@ -1,4 +1,4 @@
--- What holds of every result of a tree.
+-- A property of every result of a tree.
 use Rattle.linear_form.specs.Query.{Query, next}
 use Rattle.linear_form.specs.Query.Query.{done, bits, ask}
 use Rattle.linear_values.specs.Lin.{Linear}
@@ -10,7 +10,6 @@ each_next (done a) f P Q h k = k a h
 each_next bits f P Q h k = tt
 each_next (ask q y n) f P Q h k = (each_next y f P Q h.0 k, each_next n f P Q h.1 k)
 
--- whatever the first results are
 pub each_after : {A B : Type 0} (t : Query A) (f : A → Query B) (Q : B → Type 0) → ((a : A) → EachResult Q (f a)) → EachResult Q (next t f)
 each_after (done a) f Q k = k a
 each_after bits f Q k = tt

@@ -1,4 +1,4 @@
--- What stands at the end of a path, told by where an evaluation comes to.
+-- The end of a path, from the result of an evaluation.
 use Rattle.std.proofs.Common.{◌≡◌, ℕ, List, refl, sym, subst}
 use Rattle.std.specs.Prelude.{Option}
 use Rattle.heylo_formula.specs.Goals.{Goal}

@@ -60,19 +60,15 @@ is_below_ends a strict s = go (is_sized a)
     go true = asked_ends a.terms a strict s refl
     go false = tt
 
--- a question, and a result by its answer
 chosen : {C : Type 0} (a : Lin) (strict : Bool) (s : Env) (f : Bool → C) (Q : C → Type 0) → Q (f (is_negative (at a s) strict)) → Ends (next (is_below a strict) (λ t. done (f t))) s Q
 chosen a strict s f Q h = ends_then (is_below a strict) _ s _ Q (is_below_ends a strict s) (λ t e. subst (λ b. Q (f b)) (sym e) h)
 
--- two values, and what comes of them
 two : {C : Type 0} (ta tb : Query Linear) (f : Linear → Linear → Query C) (s : Env) (u v : Value) (Q : Value → Value → C → Type 0) → Ends ta s (Is s u) → Ends tb s (Is s v) → ((x y : Linear) → Ends (f x y) s (Q (value_in x s) (value_in y s))) → Ends (both ta tb f) s (Q u v)
 two ta tb f s u v Q h k g = ends_then ta _ s _ _ h (λ x p. ends_then tb _ s _ _ k (λ y q. subst (λ z. Ends (f x y) s (Q z v)) p (subst (λ z. Ends (f x y) s (Q (value_in x s) z)) q (g x y))))
 
--- the same, where what comes of them needs to know what they are
 two_known : {C : Type 0} (ta tb : Query Linear) (f : Linear → Linear → Query C) (s : Env) (u v : Value) (Q : C → Type 0) → Ends ta s (Is s u) → Ends tb s (Is s v) → ((x y : Linear) → value_in x s ≡ u → value_in y s ≡ v → Ends (f x y) s Q) → Ends (both ta tb f) s Q
 two_known ta tb f s u v Q h k g = ends_then ta _ s _ _ h (λ x p. ends_then tb _ s _ _ k (λ y q. g x y p q))
 
--- one value, and what comes of it
 one : {C : Type 0} (t : Query Linear) (f : Linear → Query C) (s : Env) (u : Value) (Q : Value → C → Type 0) → Ends t s (Is s u) → ((x : Linear) → Ends (f x) s (Q (value_in x s))) → Ends (with t f) s (Q u)
 one t f s u Q h g = ends_then t _ s _ _ h (λ x p. subst (λ z. Ends (f x) s (Q z)) p (g x))
 
@@ -144,7 +140,6 @@ unfolding validateᵛ
 validate_is (Some a) s = zero_is s
 validate_is None s = refl
 
--- a number from 0 on is at most 0 exactly where it is 0
 at_most_zero : (x : Rational) → zeroʳ ≤ʳ x → leqʳ x zeroʳ ≡ is_zeroʳ x
 at_most_zero x h = go (leqʳ x zeroʳ) (is_zeroʳ x) refl refl
   where
@@ -170,7 +165,7 @@ finite_product_ends [] us a b s e f = sized_ends (Some (scaled a.rest b)) s _ (a
 finite_product_ends (t ∷ ts) [] a b s e f = sized_ends (Some (scaled b.rest a)) s _ (ap finite (scaled_at b.rest a s ∙ ap (λ x. x *ʳ at a s) (constant_is b s f) ∙ *ʳ_comm (at b s) (at a s)))
 finite_product_ends (t ∷ ts) (u ∷ us) a b s e f = tt
 
--- an infinite factor meets no negative one
+-- `Compatible u v`: if one factor is infinity, the other is not negative.
 pub record Compatible (u v : Value) : Type 0 where
   pub left : is_finite u ≡ false → zeroᵛ ≤ᵛ v
   pub right : is_finite v ≡ false → zeroᵛ ≤ᵛ u
@@ -204,7 +199,6 @@ less_ends (Some a) None s = refl
 less_ends None (Some b) s = refl
 less_ends None None s = refl
 
--- what is asked after a condition
 after : {C : Type 0} (t : Query Bool) (f : Bool → Query C) (s : Env) (b : Bool) (Q : C → Type 0) → Ends t s (λ u. u ≡ b) → Ends (f b) s Q → Ends (next t f) s Q
 after t f s b Q h k = ends_then t f s _ Q h (λ u e. subst (λ v. Ends (f v) s Q) (sym e) k)
 
@@ -237,7 +231,6 @@ number_is infinite s = refl
 
 -- ---- Types
 
--- the types of the parts of a comparison
 compared : (o : Option NumberType) → is_finite_type o ≡ true → (j : NumberType) × (o ≡ Some j)
 compared (Some j) e = (j, refl)
 compared None e = absurd (cc)

@@ -1,4 +1,5 @@
--- A state that meets the rows of a path and has its truths agrees with it, and with the denied goal among them the goal fails.
+-- A state that has the truths of a path and satisfies its rows agrees with it; with the denied goal
+-- among the rows, the goal fails.
 use Rattle.std.proofs.Common.{◌≡◌, List, [], ◌∷◌, ◌++◌, length, refl, sym, ap, ◌∙◌, subst, Bool, true, false, not, cond}
 use Rattle.std.specs.Prelude.{Some, None}
 use Rattle.heyvl_num.specs.Rational.{Rational, zeroʳ, ◌-ʳ◌}
@@ -54,7 +55,6 @@ agrees : (s : Env) (ks ps : List Taken) → HasTruths s ks → AreKnown ks ps �
 agrees s ks [] h k c = tt
 agrees s ks (p ∷ ps) h k c = (answered s ks p.atom p.held h k.0 (first_claimed s (answer_claims p.atom p.held) (path_claims ps) c), agrees s ks ps h k.1 (second_claimed s (answer_claims p.atom p.held) (path_claims ps) c))
 
--- The claims before those of the signs.
 before_signs : (g : Goal) (ps : List Taken) (denied : Bool) (s : Env) → AllClaimed s (claims_of g ps denied) → AllClaimed s (path_claims ps ++ cond denied (listed (denial_at g.upper (end_at g ps))) [])
 before_signs g ps denied s h = first_claimed s (path_claims ps ++ cond denied (listed (denial_at g.upper (end_at g ps))) []) (sign_claims (types_in g.types) (path_claims ps ++ cond denied (listed (denial_at g.upper (end_at g ps))) []) (length g.types)) h
 

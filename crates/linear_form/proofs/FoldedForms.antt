@@ -1,4 +1,4 @@
--- A form asks what the one does to which it is folded.
+-- A form has the comparisons of the form to which it folds.
 use Rattle.std.proofs.Common.{◌≡◌, Some, true, refl, sym, ap, ap₂, ◌∙◌, cond, ◌&&◌}
 use Rattle.heyvl_num.specs.Rational.{Rational, ◌+ʳ◌}
 use Rattle.heyvl_num.specs.Value.Value.{finite}
@@ -37,6 +37,5 @@ mutual
   folded_tests _ _ (TestFoldsTo.at_most a b c d k g) = ap₂ (λ s t. both s t q.at_most) (folded_asks a c k) (folded_asks b d g)
   folded_tests _ _ (TestFoldsTo.less a b c d k g) = ap₂ (λ s t. both s t q.less) (folded_asks a c k) (folded_asks b d g)
 
--- its part is a part of the form too
 pub part_folded : (f h : Form) (p : Part) → FoldsTo f h → IsPartOf (Tree.formula h) p → IsPartOf (Tree.formula f) p
 part_folded f h p k i = record { asks = i.asks ∙ ap valued (folded_asks f h k); ready = i.ready }

@@ -1,4 +1,4 @@
--- The rows of a path are rows, and how many they are.
+-- The rows of a path satisfy their invariant, and there are few of them.
 use Rattle.std.proofs.Common.{◌≡◌, ℕ, ◌+◌, ◌<◌, ◌≤◌, ◌^◌, List, [], ◌∷◌, ◌++◌, length, refl, sym, ap, ap₂, ◌∙◌, subst, arith, lit<, Bool, true, false, cond, ◌&&◌, ◌||◌}
 use Rattle.std.specs.Prelude.{ℤ, pos, unsigned_abs, Option, Some, None}
 use Rattle.std.specs.List.{All}
@@ -103,7 +103,7 @@ found types (k ∷ ks) rows h e = go (tightened types k) refl (all_tightened typ
     go None a (Some qs) b e ih = absurd (cc)
     go None a None b e ih = absurd (cc)
 
--- ---- How many claims there are
+-- ---- The number of claims
 
 count_joined : (ks ls : List Claim) (m n : ℕ) → length ks ≤ m → length ls ≤ n → length (ks ++ ls) ≤ m + n
 count_joined ks ls m n h k = let e = length-append ks ls in omega (arith, e, h, k)

@@ -1,4 +1,4 @@
--- Frames that surely ask a comparison once their outcome is there.
+-- Frames that surely ask a comparison of numbers after they get their result.
 use Rattle.std.proofs.Common.{◌≡◌, ℕ, List, [], ◌∷◌, Bool, true, false, ◌&&◌, ◌||◌, refl, sym, ap, ◌∙◌, subst}
 use Rattle.std.specs.List.{list_any}
 use Rattle.linear_form.specs.Query.{Query}
@@ -21,7 +21,7 @@ use Rattle.linear_form.proofs.PlainPartsAre.{asks_by, asks_work, does, ready_by}
 use Rattle.linear_form.proofs.ReadyParts.{choice_follows, comparison_lasts, none_lasts, part_asks, two_follows}
 use Rattle.linear_form.proofs.SureQuestions.{lasts_first, lasts_twice}
 
--- ---- What is noted of parts
+-- ---- What is recorded of parts
 
 pub sure : (p : Part) → IsReady p → notes p ≡ true → Lasts 1 (asked p)
 sure (Part.part w b) h e = h.0 e
@@ -36,7 +36,7 @@ framed_first : (k : ℕ) (q : Query Result) (fs : List Frame) → Lasts k q → 
 framed_first k q [] h = h
 framed_first k q (f ∷ fs) h = lasts_first k (framed q fs) (resumed f) (framed_first k q fs h)
 
--- ---- Where it is noted
+-- ---- Frames that ask by their record
 
 follows : (w : Work) (r : Result) → IsReadyWork w → notes_later w ≡ true → Lasts 1 (after_first w r)
 follows (Work.known x) r h e = absurd (cc)
@@ -60,16 +60,14 @@ framed_twice q (f ∷ fs) h a e = one_more q fs f h a (framed_twice q fs h a.1) 
 pub left_twice : (p : V.Evaluation) (fs : List Frame) → fs ≡ p.frames.items → Lasts 2 (framed (asked_by p.focus) fs) → Lasts 2 (left_at p)
 left_twice p fs e h = lasts_first 2 (framed (asked_by p.focus) p.frames.items) ended (subst (λ fs. Lasts 2 (framed (asked_by p.focus) fs)) e h)
 
--- ---- Evaluations that stand at a comparison
+-- ---- Evaluations at a comparison
 
 comparison_sure : (u : P.Part) (a : Rc A.Atom Global) (y n : Rc P.Part Global) → u.work ≡ W.TheVariants.Asks a y n → IsComparison (atom_of a.value) → Lasts 1 (asked (part_of u))
 comparison_sure u a y n e c = subst (Lasts 1) (sym (asks_by u _ (ap work_of e ∙ asks_work a y n))) (comparison_lasts 0 (atom_of a.value) _ _ c (none_lasts _) (none_lasts _))
 
--- a part that waits asks one more
 pub waiting_twice : (p : V.Evaluation) (u : Rc P.Part Global) (d : P.Part) (a : Rc A.Atom Global) (y n : Rc P.Part Global) (fs : List Frame) → p.focus ≡ O.TheVariants.Part u → d ≡ u.value → d.work ≡ W.TheVariants.Asks a y n → IsComparison (atom_of a.value) → IsReadyEvaluation p → fs ≡ p.frames.items → list_any frame_asks fs ≡ true → Lasts 2 (left_at p)
 waiting_twice p u d a y n fs e k g c r f h = left_twice p fs f (framed_twice (asked_by p.focus) fs (subst (λ f. Lasts 1 (asked_by f)) (sym e) (subst (λ d. Lasts 1 (asked (part_of d))) k (comparison_sure d a y n g c))) (subst AreReadyFrames (sym f) r.1) h)
 
--- what follows it asks one more, whichever the answer is
 pub question_twice : (p : V.Evaluation) (u : Rc P.Part Global) (d : P.Part) (a : Rc A.Atom Global) (y n : Rc P.Part Global) → p.focus ≡ O.TheVariants.Part u → d ≡ u.value → d.work ≡ W.TheVariants.Asks a y n → IsComparison (atom_of a.value) → IsReadyEvaluation p → y.value.asks ≡ true → n.value.asks ≡ true → Lasts 2 (left_at p)
 question_twice p u d a y n e k g c r s t =
     let w = does u.value d _ k g ∙ asks_work a y n in

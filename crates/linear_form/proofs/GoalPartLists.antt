@@ -42,7 +42,7 @@ take_one_more xs i x h = take-suc xs i x (slice_get_within xs i x h) ∙ ap (λ 
 
 -- ---- Nodes, over those before them
 
--- A node that stands there, and its tree over the nodes before it.
+-- `Over ns i n`: the node `n` is at index `i`, and its tree is over the nodes before it.
 pub record Over (ns : List Node) (i : ℕ) (n : Node) : Type 0 where
   pub there : slice_get ns i ≡ Some n
   pub tree : Tree
@@ -85,11 +85,9 @@ parts_more ns n ps p t l m i h = record { each = λ j u e. go j u e (eq-or-lt_of
         let v : t ≡ u = cc in
         record { part = p; there = ap (slice_get (ps ++ p ∷ [])) (k ∙ sym l) ∙ get_last ps p; is_part = subst (λ t. IsPartOf t p) v i }
 
--- a part that is ready is that of its tree
 ready_is : (t : Tree) (w : Work) (p : Part) → IsWorkOf t w → IsReadyAs (work_of w) p → IsPartOf t p
 ready_is t w p h r = record { asks = r.asks ∙ h.asks; ready = r.ready }
 
--- one more part, behind the others
 pub parts_grow : (ns : List Node) (i : ℕ) (n : Node) (ps new : List (Rc Part Global)) (r : Rc Part Global) (w : Work) → length ps ≡ i → new ≡ ps ++ r ∷ [] → (o : Over ns i n) → IsWorkOf o.tree w → IsReadyAs (work_of w) r.value → AreParts (take i ns) (map rc_value ps) → AreParts (take (i + 1) ns) (map rc_value new)
 parts_grow ns i n ps new r w l f o h k a = subst (λ ms. AreParts ms (map rc_value new)) (sym (ap (λ j. take j ns) (add-one i) ∙ take_one_more ns i n o.there)) (subst (AreParts (take i ns ++ n ∷ [])) (sym (ap (map rc_value) f ∙ map-append rc_value ps (r ∷ []))) (parts_more (take i ns) n (map rc_value ps) r.value o.tree (length-map ps rc_value ∙ l ∙ sym (length-take-le i ns (omega (arith, slice_get_within ns i n o.there)))) o.node (ready_is o.tree w r.value h k) a))
 

@@ -1,4 +1,4 @@
--- The rows of a path, grown answer by answer.
+-- The rows of a path, built answer by answer.
 use Rattle.std.proofs.Common.{◌≡◌, List, [], ◌∷◌, ◌++◌, take, length, refl, sym, ap, ap₂, ◌∙◌, subst, arith, Bool, true, false}
 use Rattle.std.specs.Prelude.{Option, Some, None}
 use Rattle.std.proofs.lemmas.List.{append-nil}
@@ -65,7 +65,7 @@ next_rows g tys xs rest t rows r e f h k =
     let whole : path_claims (path_of xs) ≡ path_claims (path_of rest) ++ answer_claims (atom_of t.atom) t.held = ap path_claims (ap path_of f ∙ path_of_last rest t) ∙ claims_append (path_of rest) (taken_of t ∷ []) ∙ ap (λ ks. path_claims (path_of rest) ++ ks) (append-nil (answer_claims (atom_of t.atom) t.held)) in
     subst (Lists r) (ap (λ z. rows_with (types_in z) rows (answer_claims (atom_of t.atom) t.held)) e ∙ sym (one_more (types_in g.types) (path_claims (path_of rest)) (answer_claims (atom_of t.atom) t.held) rows are) ∙ ap (all_tightened (types_in g.types)) (sym whole)) k
 
--- ---- The rows that stand first
+-- ---- The rows at the beginning
 
 pub starts : (rows : List Row) (o : Option (List Row)) (r : RowList) → Lists r (followed_by rows o) → StartsWith rows r
 starts rows (Some more) (Rows all) h = let k : rows ++ more ≡ all.items = cc in ap (take (length rows)) (sym k) ∙ take-append_seam rows more

@@ -1,4 +1,4 @@
--- The operators of nodes, and the linear values that they keep as the program does.
+-- The operators of nodes preserve the invariant of linear values.
 use Rattle.std.proofs.Common.{◌≡◌, ℕ, List, sym, subst}
 use Rattle.std.specs.Prelude as M
 use Rattle.std.specs.Prelude.{Bool}
@@ -67,10 +67,8 @@ operated_kept o (Result.number x) (Result.ends e) h k = tt
 operated_kept o (Result.truth t) s h k = tt
 operated_kept o (Result.ends e) s h k = tt
 
--- what comes of kept values is kept
 pub came_kept : (ps : List Taken) (t : Query Result) (i : ℕ) (c : Came) → EachResult IsKeptResult t → along ps t i ≡ value (outcome_of c.outcome) c.next → IsKeptResult (outcome_of c.outcome)
 came_kept ps t i c h g = run_result ps t IsKeptResult i (outcome_of c.outcome) c.next h g
 
--- an operator that is known
 pub operator_arm : (r : M.Result Came Stop) (ps : List Taken) (n n' : Node) (x y : Linear) (i : ℕ) → n ≡ n' → Comes r (along ps (operator n' x y) i) → Comes r (along ps (operator n x y) i)
 operator_arm r ps n n' x y i e h = subst (λ n. Comes r (along ps (operator n x y) i)) (sym e) h

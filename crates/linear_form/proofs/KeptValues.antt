@@ -1,4 +1,4 @@
--- Operators keep the terms of linear values growing and without zeros, and their numbers below the bound.
+-- Operators preserve the invariant of linear values: increasing variables, no zeros, small numbers.
 use Rattle.std.proofs.Common.{◌≡◌, ℕ, [], ◌∷◌, refl, Bool, true, false, cond}
 use Rattle.std.specs.Prelude.{Some, None}
 use Rattle.heyvl_num.specs.Gcd.{gcd, gcd_steps}

@@ -1,4 +1,4 @@
--- A path asks for a truth once, and so its answer is what the path knows of it.
+-- A path asks for a truth once, so its answer is the truth that the path has decided.
 use Rattle.std.proofs.Common.{◌≡◌, ℕ, List, [], ◌∷◌, ◌++◌, refl, sym, ap, ◌∙◌, subst, arith, Bool, true, false, cond, ◌==◌, append_assoc}
 use Rattle.std.specs.Prelude.{Option, Some, None}
 use Rattle.std.specs.List.{All}
@@ -14,7 +14,7 @@ abbrev IsNew : List Taken → Atom → Type 0
 IsNew qs (Atom.truth x) = known x qs ≡ None
 IsNew qs (Atom.row a strict) = Unit {0}
 
--- No truth of the second path is known by the first, or asked twice.
+-- `AreNew qs ps`: no truth of the path `ps` is decided by `qs`, or asked twice.
 abbrev AreNew : List Taken → List Taken → Type 0
 AreNew qs [] = Unit {0}
 AreNew qs (p ∷ ps) = IsNew qs p.atom × AreNew (onto qs p.atom p.held) ps
@@ -39,7 +39,7 @@ abbrev pub IsKnownTruth : List Taken → Atom → Bool → Type 0
 IsKnownTruth ks (Atom.truth x) held = known x ks ≡ Some held
 IsKnownTruth ks (Atom.row a strict) held = Unit {0}
 
--- A path knows each truth of the second path as it was answered there.
+-- `AreKnown ks ps`: the path `ks` decides each truth as the path `ps` does.
 abbrev pub AreKnown : List Taken → List Taken → Type 0
 AreKnown ks [] = Unit {0}
 AreKnown ks (p ∷ ps) = IsKnownTruth ks p.atom p.held × AreKnown ks ps
@@ -67,7 +67,6 @@ new_known : (qs ps : List Taken) → AreNew qs ps → AreKnown (qs ++ ps) ps
 new_known qs [] h = tt
 new_known qs (p ∷ ps) h = (first_known p.atom p.held qs ps h.0, subst (λ ks. AreKnown ks ps) (append_assoc qs (p ∷ []) ps) (new_known (onto qs p.atom p.held) ps h.1))
 
--- splits ask for no truth
 new_split : (types : List Ty) (qs : List Taken) (p : Taken) → IsSplit types p → IsNew qs p.atom
 new_split types qs p h = subst (IsNew qs) (sym h.atom) tt
 
@@ -79,6 +78,5 @@ new_splits : (types : List Ty) (qs ps ss : List Taken) → AreNew qs ps → All 
 new_splits types qs [] ss h k = splits_new types qs ss k
 new_splits types qs (p ∷ ps) ss h k = (h.0, new_splits types (onto qs p.atom p.held) ps ss h.1 k)
 
--- A path knows its own truths.
 pub path_known : (g : Goal) (ps : List Taken) → IsPath g ps → AreKnown ps ps
 path_known g ps p = new_known [] ps (subst (AreNew []) (sym p.parts) (new_splits g.types [] p.asked p.splits (once_new [] _ p.asked p.is_asked) p.are_splits))

@@ -33,21 +33,17 @@ answer_rows g tys xs rest t none r i n e h before last k =
 onto_claims : (g : Goal) (ps : List Taken) (q : Atom) (held : Bool) → all_tightened (types_in g.types) (path_claims (onto ps q held)) ≡ joined (all_tightened (types_in g.types) (path_claims ps)) (all_tightened (types_in g.types) (answer_claims q held))
 onto_claims g ps q held = ap (all_tightened (types_in g.types)) (claims_onto ps q held) ∙ tightened_append (types_in g.types) (path_claims ps) (answer_claims q held)
 
--- they are those of the shorter one, and then those of the answer
 pub more_rows : (g : Goal) (ps : List Taken) (q : Atom) (held : Bool) (rows more : List Row) → ArePathRows g ps rows → all_tightened (types_in g.types) (answer_claims q held) ≡ Some more → ArePathRows g (onto ps q held) (rows ++ more)
 more_rows g ps q held rows more h e = record { are_rows = onto_claims g ps q held ∙ ap₂ joined h.are_rows e }
 
--- there are none where the answer has none
 pub lost_here : (g : Goal) (ps : List Taken) (q : Atom) (held : Bool) (rows : List Row) → ArePathRows g ps rows → all_tightened (types_in g.types) (answer_claims q held) ≡ None → all_tightened (types_in g.types) (path_claims (onto ps q held)) ≡ None
 lost_here g ps q held rows h e = onto_claims g ps q held ∙ ap₂ joined h.are_rows e
 
--- or the shorter path has none
 pub lost_before : (g : Goal) (ps : List Taken) (q : Atom) (held : Bool) → all_tightened (types_in g.types) (path_claims ps) ≡ None → all_tightened (types_in g.types) (path_claims (onto ps q held)) ≡ None
 lost_before g ps q held e = onto_claims g ps q held ∙ ap (λ o. joined o (all_tightened (types_in g.types) (answer_claims q held))) e
 
 lost_more : (types : Types) (ks ls : List Claim) → all_tightened types ks ≡ None → all_tightened types (ks ++ ls) ≡ None
 lost_more types ks ls e = tightened_append types ks ls ∙ ap (λ o. joined o (all_tightened types ls)) e
 
--- a path whose comparisons have no rows has none with the denied goal and the signs either
 pub lost_rows : (g : Goal) (ps : List Taken) (denied : Bool) → all_tightened (types_in g.types) (path_claims ps) ≡ None → rows_of g ps denied ≡ None
 lost_rows g ps denied e = lost_more (types_in g.types) _ _ (lost_more (types_in g.types) (path_claims ps) _ e)

@@ -1,4 +1,4 @@
--- What a path claims holds in each state that agrees with it.
+-- The claims of a path hold in each state that agrees with it.
 use Rattle.std.proofs.Common.{◌≡◌, ℕ, List, [], ◌∷◌, ◌++◌, length, refl, sym, ap, ◌∙◌, subst, Bool, true, false, not, cond, ◌&&◌}
 use Rattle.std.specs.Prelude.{Some, None}
 use Prim.Native.Nat.{zero, suc}
@@ -120,10 +120,8 @@ signs_claimed types s ks (suc n) h = claimed_append s (sign_claims types ks n) _
 signs_at : (g : Goal) (s : List Val) (ks : List Claim) → IsTyped g.types s → AllClaimed (environment s) ks → AllClaimed (environment s) (with_signs g ks)
 signs_at g s ks t h = claimed_append (environment s) ks (sign_claims (types_in g.types) ks (length g.types)) h (signs_claimed (types_in g.types) (environment s) ks (length g.types) (typed_environment g.types s t))
 
--- Each claim of a path without the denied goal holds in each state that agrees with it.
 pub answers_claimed : AnswersClaimTruths
 answers_claimed g s ps t a = signs_at g s (path_claims ps ++ []) t (claimed_append (environment s) (path_claims ps) [] (path_claimed (environment s) ps a) tt)
 
--- With the denied goal each holds where the goal fails.
 pub denials_claimed : DenialsClaimTruths
 denials_claimed g s ps w t p a n = signs_at g s (path_claims ps ++ listed (denial_at g.upper (end_at g ps))) t (claimed_append (environment s) (path_claims ps) (listed (denial_at g.upper (end_at g ps))) (path_claimed (environment s) ps a) (denied_claimed g s ps w t p a n))

@@ -1,4 +1,5 @@
--- The rows of a path are met by each state that agrees with it, and with the denied goal by those in which the goal fails.
+-- Each state that agrees with a path satisfies its rows; with the denied goal, if the goal fails in
+-- it.
 use Rattle.std.proofs.Common.{true, false}
 use Rattle.heylo_formula.specs.State.{environment}
 use Rattle.linear_form.specs.ClaimLaws.{RowsAreMet, DeniedRowsAreMet}

@@ -1,4 +1,4 @@
--- What the parts of nodes do, by the nodes and by the parts of the nodes before.
+-- The work of the part of each kind of node.
 use Rattle.std.proofs.Common.{◌≡◌, ℕ, ◌<◌, ◌≤◌, Bool, true, false, not, List, map, Option, Some, None, ◌⊎◌, inl, inr, length, slice_get, get_or, refl, sym, ap, ap₂, subst, ◌∙◌, Global}
 use Rattle.std.specs.Prelude.{if◌then◌else◌}
 use Rattle.std.specs.Option.{option_map}
@@ -47,9 +47,8 @@ part_missing ns t xs i j p e l h a =
     let m : None ≡ Some k.part = sym (slice_get-map rc_value xs i ∙ ap (option_map rc_value) (slice_get_past xs i l)) ∙ ap (slice_get (map rc_value xs)) e ∙ k.there in
     absurd (cc)
 
--- ---- Parts that are made beside
+-- ---- Auxiliary parts
 
--- a part of which nobody knows whether it asks
 pub ready_unsure : (p : parts.Part) (w : parts.Work) → p ≡ parts.Part.part w false → IsReadyWork w → IsReady p
 ready_unsure p w e h = subst IsReady (sym e) ((λ f. absurd (cc)), h)
 
@@ -58,18 +57,17 @@ known_ready p r e h = ready_unsure p (parts.Work.known r) e h
 
 -- ---- Over parts
 
--- What is to be shown of each kind of node.
+-- `Works n ps w`: the work `w` is that of the node `n` over the parts `ps`.
 abbrev pub Works : Node → List Part → W.Work → Type 0
 Works n ps w = (ns : List Node) (t : Tree) → AreParts ns ps → IsNodeOf ns n t → IsWorkOf t w
 
--- The part is that of the tree at a number.
+-- `IsAt ps o p`: `p` is the part of the tree at the number `o`.
 abbrev pub IsAt : List Part → Option ℕ → Part → Type 0
 IsAt ps o p = (ns : List Node) (i : ℕ) (t : Tree) → AreParts ns ps → o ≡ Some i → tree_at ns i ≡ Some t → IsPartOf t p
 
 pub at_id : (ps : List Part) (o o' : Option ℕ) (p : Part) → o ≡ o' → IsAt ps o p → IsAt ps o' p
 at_id ps o o' p e h = subst (λ o. IsAt ps o p) e h
 
--- a value that is known
 pub value_known : (p : Part) (w : W.Work) (v : Option L.Lin) → part_of p ≡ parts.Part.part (work_of w) false → work_of w ≡ parts.Work.known (outcomes.Result.number (linear_of v)) → linear_of v ≡ q.zero → part_of p ≡ known_part (outcomes.Result.number q.zero)
 value_known p w v e k h = e ∙ ap (λ y. parts.Part.part y false) (k ∙ ap (λ y. parts.Work.known (outcomes.Result.number y)) h)
 
@@ -99,13 +97,11 @@ validate_node n ps a z p w e o f j = one_form n ps a z p w (λ f. Tree.formula (
 pub co_validate_node : (n : Node) (ps : List Part) (a : ℕ) (z p : Part) (w : W.Work) → n ≡ Node.CoValidate a → part_of z ≡ known_part (outcomes.Result.number q.zero) → IsAt ps (first n) p → work_of w ≡ parts.Work.two (Operation.Of n) (part_of z) (part_of p) → Works n ps w
 co_validate_node n ps a z p w e o f j = one_form n ps a z p w (λ f. Tree.formula (Form.co_validate f)) (λ at. ap (assembled at) e) (λ f. one_valued (evaluate f) q.co_validate ∙ ap (λ n. next (valued (evaluate f)) (λ y. operated (Operation.Of n) (outcomes.Result.number q.zero) y)) (sym e)) o (subst (λ o. IsAt ps o p) (ap first e) f) j
 
--- an operator with one operand
 pub one_node : (n : Node) (ps : List Part) (z p : Part) (w : W.Work) → ((v : _) × (a : _) × (n ≡ Node.Scale v a)) ⊎ (((a : _) × (n ≡ Node.Validate a)) ⊎ ((a : _) × (n ≡ Node.CoValidate a))) → part_of z ≡ known_part (outcomes.Result.number q.zero) → IsAt ps (first n) p → work_of w ≡ parts.Work.two (Operation.Of n) (part_of z) (part_of p) → Works n ps w
 one_node n ps z p w (inl e) o f j = scale_node n ps e.0 e.1 z p w e.2 o f j
 one_node n ps z p w (inr (inl e)) o f j = validate_node n ps e.0 z p w e.1 o f j
 one_node n ps z p w (inr (inr e)) o f j = co_validate_node n ps e.0 z p w e.1 o f j
 
--- an operator with two operands
 pub two_node : (n : Node) (ps : List Part) (p u : Part) (w : W.Work) → IsAt ps (first n) p → IsAt ps (second n) u → work_of w ≡ parts.Work.two (Operation.Of n) (part_of p) (part_of u) → ((v : _) → n ≡ Node.Const v → ⊥) → ((x : _) → n ≡ Node.Var x → ⊥) → ((a : ℕ) → n ≡ Node.Embed a → ⊥) → ((a : ℕ) → n ≡ Node.Iverson a → ⊥) → ((a b c : ℕ) → n ≡ Node.Select a b c → ⊥) → ((a b c : ℕ) → n ≡ Node.Ite a b c → ⊥) → ((up x name ty a : _) → n ≡ Node.Bind up x name ty a → ⊥) → ((b : _) → n ≡ Node.Truth b → ⊥) → ((x : _) → n ≡ Node.Flag x → ⊥) → ((a : ℕ) → n ≡ Node.Not a → ⊥) → ((a b : ℕ) → n ≡ Node.And a b → ⊥) → ((a b : ℕ) → n ≡ Node.Or a b → ⊥) → ((a b : ℕ) → n ≡ Node.Same a b → ⊥) → ((v a : _) → n ≡ Node.Scale v a → ⊥) → ((a : ℕ) → n ≡ Node.Validate a → ⊥) → ((a : ℕ) → n ≡ Node.CoValidate a → ⊥) → Works n ps w
 two_node (Node.Sum a b) ps p u w f g j h0 h1 h2 h3 h4 h5 h6 h7 h8 h9 h10 h11 h12 h13 h14 h15 = two_forms (Node.Sum a b) ps a b p u w (λ f g. Tree.formula (Form.sum f g)) (λ at. refl) (λ f g. two_valued (evaluate f) (evaluate g) q.sum) f g j
 two_node (Node.Diff a b) ps p u w f g j h0 h1 h2 h3 h4 h5 h6 h7 h8 h9 h10 h11 h12 h13 h14 h15 = two_forms (Node.Diff a b) ps a b p u w (λ f g. Tree.formula (Form.difference f g)) (λ at. refl) (λ f g. two_valued (evaluate f) (evaluate g) q.difference) f g j
@@ -143,7 +139,6 @@ variable_node n ps x a w e l k ns t h m = of_tree t (Tree.formula (Form.variable
     go : work_of w ≡ parts.Work.known (outcomes.Result.number (Some (variable x))) → IsWorkOf (Tree.formula (Form.variable x)) w
     go k = record { asks = ap asked_by_work k; ready = subst IsReadyWork (sym k) (variable_kept x) }
 
--- the part of a truth that is known
 truth_ready : (b : Bool) → IsReady (known_part (outcomes.Result.truth b))
 truth_ready b = ((λ f. absurd (cc)), tt)
 
@@ -158,7 +153,6 @@ chosen g s p r w t k j e f z a b m n = record { asks = ap asked_by_work j ∙ ap
     same (outcomes.Result.truth false) = b
     same (outcomes.Result.ends x) = refl
 
--- one of two values, by a truth
 picked : (n : Node) (ps : List Part) (a : ℕ) (p : Part) (w : W.Work) (k : Cond → Tree) (x y : Linear) → ((at : ℕ → Option Tree) → assembled at n ≡ with (as_cond (at a)) (λ g. Some (k g))) → ((g : Cond) → asked_of (k g) ≡ valued (next (test g) (λ b. done (if b then x else y)))) → IsKeptValue x → IsKeptValue y → IsAt ps (Some a) p → work_of w ≡ parts.Work.choice (part_of p) (known_part (outcomes.Result.number x)) (known_part (outcomes.Result.number y)) → Works n ps w
 picked n ps a p w k x y i e l m f j ns t h r =
     let g = cond_part (tree_at ns) a _ t (sym (i (tree_at ns)) ∙ r.gives) in
@@ -223,7 +217,6 @@ same_node n ps a b s p v c d w e f g o i u j ns t h r =
     let m = chosen y.form (part_of c) _ _ d (Tree.condition (Cond.not y.form)) (λ t. told (done (not t))) i (truth_told (test y.form) (λ t. done (not t))) z.asks z.ready refl refl (truth_ready false) (truth_ready true) in
     of_tree t _ w y.rest (chosen x.form (part_of s) (part_of p) (part_of v) w (Tree.condition (Cond.same x.form y.form)) (λ t. told (next (test y.form) (λ u. done (agree t u)))) j (truth_told (test x.form) (λ t. next (test y.form) (λ u. done (agree t u)))) k.asks k.ready (l.asks ∙ sym (next_assoc (test y.form) (λ u. done u) _)) (ap asked u ∙ m.asks) l.ready (ready_unsure (part_of v) _ u m.ready))
 
--- one of two parts
 pub picked_node : (n : Node) (ps : List Part) (s p v : Part) (w : W.Work) → ((a : _) × (b : _) × (c : _) × (n ≡ Node.Select a b c)) ⊎ ((a : _) × (b : _) × (c : _) × (n ≡ Node.Ite a b c)) → IsAt ps (first n) s → IsAt ps (second n) p → IsAt ps (third n) v → work_of w ≡ parts.Work.choice (part_of s) (part_of p) (part_of v) → Works n ps w
 picked_node n ps s p v w (inl e) f g h j = select_node n ps e.0 e.1 e.2 s p v w e.3 f g h j
 picked_node n ps s p v w (inr e) f g h j = ite_node n ps e.0 e.1 e.2 s p v w e.3 f g h j

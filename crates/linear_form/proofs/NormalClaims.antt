@@ -1,4 +1,4 @@
--- The claims of a path of a goal have growing terms and no coefficient 0.
+-- The claims of a path of a goal have increasing variables and no coefficient 0.
 use Rattle.std.proofs.Common.{ℕ, List, [], ◌∷◌, ◌++◌, length, sym, subst, Bool, true, false, cond, ◌&&◌}
 use Rattle.std.specs.Prelude.{Option, Some, None}
 use Rattle.std.specs.List.{All}
@@ -33,7 +33,7 @@ use Rattle.linear_form.proofs.KeptValues.{form_kept}
 use Rattle.linear_form.proofs.SplitPaths.{end_same}
 use Rattle.linear_values.proofs.exported.Factors.{normal_nonzero}
 
--- ---- The results and the questions of a tree
+-- ---- The results and the comparisons of a tree
 
 abbrev IsGoodValue : Linear → Type 0
 IsGoodValue (Some a) = AreNormal a.terms
@@ -225,7 +225,6 @@ splits_normal : (types : List Ty) (ps : List Taken) → All (IsSplit types) ps �
 splits_normal types [] h = tt
 splits_normal types (p ∷ ps) h = (split_normal types p (All-head (IsSplit types) p ps h), splits_normal types ps (All-tail (IsSplit types) p ps h))
 
--- the answers of a path, and what stands at its end
 pub answers_normal : (g : Goal) (ps : List Taken) → IsPath g ps → IsNormalPath ps
 answers_normal g ps p = subst IsNormalPath (sym p.parts) (normal_paths p.asked p.splits (path_good (questions g) p.asked AreGood (goal_good g) p.is_asked) (splits_normal g.types p.splits p.are_splits))
 

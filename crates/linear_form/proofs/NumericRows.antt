@@ -1,4 +1,4 @@
--- Each variable of a row of a typed goal is a number by its type.
+-- Each variable of a row of a typed goal has a type of numbers.
 use Rattle.std.proofs.Common.{◌≡◌, ℕ, List, [], ◌∷◌, ◌++◌, length, refl, subst, Bool, true, false, cond, ◌&&◌}
 use Rattle.std.specs.Prelude.{Option, Some, None}
 use Prim.Native.Nat.{zero, suc}
@@ -53,7 +53,6 @@ denial_numbers types false (done e) h = below_numbers types e.1 e.0 h.1 h.0
 denial_numbers types up bits h = tt
 denial_numbers types up (ask q y n) h = tt
 
--- An unsigned type is one of numbers.
 pub unsigned_number : (ty : Ty) → is_unsigned_type ty ≡ true → is_numeric ty ≡ true
 unsigned_number Ty.Bool e = absurd (cc)
 unsigned_number Ty.Int e = absurd (cc)
@@ -69,7 +68,6 @@ signs_numbers types ks (suc n) = numbers_append types (sign_claims types ks n) _
     go true e false = tt
     go false e b = tt
 
--- Each claim of a path of a typed goal is about numbers.
 pub number_claims : (g : Goal) (ps : List Taken) (denied : Bool) → IsTypedGoal g → IsPath g ps → NumberClaims (types_in g.types) (claims_of g ps denied)
 number_claims g ps denied w p = numbers_append types before (sign_claims types before (length g.types)) (numbers_append types (path_claims ps) (cond denied (listed (denial_at g.upper (end_at g ps))) []) (path_numbers types ps (typed_path g ps w p)) (of_two (NumberClaims types) denied (listed (denial_at g.upper (end_at g ps))) [] (denial_numbers types g.upper (end_at g ps) (typed_end g ps w p)) tt)) (signs_numbers types before (length g.types))
   where
@@ -106,6 +104,5 @@ all_numbers tys (k ∷ ks) rows h e = go (tightened (types_in tys) k) refl (all_
     go None a (Some qs) b e ih = absurd (cc)
     go None a None b e ih = absurd (cc)
 
--- Each row of a path of a typed goal is about numbers.
 pub numeric_rows : (g : Goal) (ps : List Taken) (denied : Bool) (rows : List Row) → IsTypedGoal g → IsPath g ps → rows_of g ps denied ≡ Some rows → All (IsNumericRow g.types) rows
 numeric_rows g ps denied rows w p e = all_numbers g.types (claims_of g ps denied) rows (number_claims g ps denied w p) e

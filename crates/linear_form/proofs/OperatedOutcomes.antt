@@ -1,4 +1,4 @@
--- Operators over what parts come to, which aren't values.
+-- Operators on results that are not values.
 use Rattle.std.proofs.Common.{◌≡◌, ℕ, List, ap, ap₂, ◌∙◌, refl, Global, Option, Some, None, cond}
 use Rattle.std.specs.Prelude as M
 use Rattle.std.specs.declared.rc.Rc.{Rc}
@@ -33,11 +33,9 @@ second_other ps p x (O.TheVariants.Number y) i h = absurd (h y refl)
 second_other ps p x (O.TheVariants.Truth t) i h = run_bits ps i
 second_other ps p x (O.TheVariants.Ends y z) i h = run_bits ps i
 
--- an operation that is known, over two values
 pub over_values : (p p' : Operation) (o q : O.Outcome) (x y : Rc (Option Lin) Global) → p ≡ p' → o ≡ O.TheVariants.Number x → q ≡ O.TheVariants.Number y → operated p (outcome_of o) (outcome_of q) ≡ operation p' (linear_of x.value) (linear_of y.value)
 over_values p p' o q x y e g h = ap (λ p. operated p (outcome_of o) (outcome_of q)) e ∙ ap₂ (λ o q. operated p' (outcome_of o) (outcome_of q)) g h
 
--- a node that is no operator on values
 pub no_operator : (ps : List Taken) (n : Node) (x y : Linear) (i : ℕ) → ((a b : _) → n ≡ Node.Sum a b → ⊥) → ((a b : _) → n ≡ Node.Diff a b → ⊥) → ((a b : _) → n ≡ Node.Cut a b → ⊥) → ((w a : _) → n ≡ Node.Scale w a → ⊥) → ((a b span : _) → n ≡ Node.Product a b span → ⊥) → ((a b : _) → n ≡ Node.Min a b → ⊥) → ((a b : _) → n ≡ Node.Max a b → ⊥) → ((a b : _) → n ≡ Node.Imply a b → ⊥) → ((a b : _) → n ≡ Node.CoImply a b → ⊥) → ((a : _) → n ≡ Node.Validate a → ⊥) → ((a : _) → n ≡ Node.CoValidate a → ⊥) → ((a b : _) → n ≡ Node.Le a b → ⊥) → ((a b : _) → n ≡ Node.Lt a b → ⊥) → ((a b : _) → n ≡ Node.EqNum a b → ⊥) → along ps (operator n x y) i ≡ Evaluation.bits
 no_operator ps (Node.Sum a b) x y i h0 h1 h2 h3 h4 h5 h6 h7 h8 h9 h10 h11 h12 h13 = absurd (h0 a b refl)
 no_operator ps (Node.Diff a b) x y i h0 h1 h2 h3 h4 h5 h6 h7 h8 h9 h10 h11 h12 h13 = absurd (h1 a b refl)
@@ -67,7 +65,6 @@ no_operator ps (Node.Or a b) x y i h0 h1 h2 h3 h4 h5 h6 h7 h8 h9 h10 h11 h12 h13
 no_operator ps (Node.Same a b) x y i h0 h1 h2 h3 h4 h5 h6 h7 h8 h9 h10 h11 h12 h13 = run_bits ps i
 no_operator ps (Node.Ite a b c) x y i h0 h1 h2 h3 h4 h5 h6 h7 h8 h9 h10 h11 h12 h13 = run_bits ps i
 
--- where it stops
 pub comes_stopped : (r : M.Result Came Stop) (e : Stop) (o : Evaluation Result) → r ≡ M.Err e → Stops e o → Comes r o
 comes_stopped r e o k h = rw k h
 

@@ -41,7 +41,7 @@ pub run_below_asked : (ps : List Taken) (a : Lin) (strict : Bool) (i : ℕ) → 
 unfolding along
 run_below_asked ps a strict i e h = rw (e, asked_new a.terms a strict h)
 
--- ---- Where the first value is infinity
+-- ---- The first value is infinity
 
 pub min_none : (ps : List Taken) (y : Linear) (i : ℕ) → along ps (q.min None y) i ≡ value y i
 unfolding along

@@ -1,4 +1,4 @@
--- Parts that wait for an outcome, and those that wait for none.
+-- Parts that wait for a result, and parts that wait for none.
 use Rattle.std.proofs.Common.{◌≡◌, Bool, false, refl, ap, Global}
 use Rattle.std.specs.declared.rc.Rc.{Rc}
 use Rattle.linear_form.specs.Query.{Query}

@@ -1,4 +1,5 @@
--- An evaluation that goes on along a path from a place on it: where it comes to, and what stands at the path's end.
+-- An evaluation continued along a path from a place on it: the place that it reaches, and the end
+-- of the path.
 use Rattle.std.proofs.Common.{◌≡◌, ◌⊎◌, ℕ, ◌+◌, ◌<◌, ◌≤◌, List, [], ◌∷◌, ◌++◌, refl, sym, ap, ◌∙◌, subst, arith, Bool, true, false, cond, inl, inr, take, drop, length, get_or}
 use Prim.Native.Nat.{zero, suc}
 use Rattle.std.specs.Prelude.{Option, Some, None}
@@ -14,7 +15,7 @@ use Rattle.linear_form.specs.internal.Run.{Evaluation, along, turned, heard}
 use Rattle.linear_form.specs.internal.Run.Evaluation.{value, decide}
 use Rattle.linear_form.proofs.SplitPaths.{walk_nil, walk_append}
 
--- ---- The answers of a path are to the questions of the tree, as far as it has any
+-- ---- The answers of a path follow the tree as far as it has comparisons
 
 abbrev pub Follows : {A : Type 0} → Query A → List Taken → Type 0
 Follows (done a) ps = Unit {0}
@@ -64,7 +65,7 @@ passed {A} t past q b y n e = walk_append t past (record { atom = q; held = b } 
     last true = walk_nil y
     last false = walk_nil n
 
--- ---- What the evaluation of a part comes to, where a whole tree has come to the part and what follows it
+-- ---- The result of a part, if the rest of the tree follows its result
 
 abbrev pub Reaches : {A B : Type 0} → Query B → List Taken → (A → Query B) → Evaluation A → Type 0
 Reaches t ps f (value x j) = (j ≤ length ps) × (walk t (take j ps) ≡ once (take j ps) (f x))
@@ -99,7 +100,6 @@ reaches t ps (ask (Atom.truth x) y n) f i w l e = heard_reaches t ps f (known x 
 
 -- ---- A goal's evaluation, from a place on a path
 
--- where it stands once a part has its value
 pub found_on : {A : Type 0} (g : Goal) (ps : List Taken) (u : Query A) (f : A → Query Ends) (i j : ℕ) (x : A) → IsPath g ps → along ps u i ≡ value x j → IsOn g ps (record { left = next u f; at = i }) → IsOn g ps (record { left = f x; at = j })
 found_on g ps u f i j x w e h = let k = subst (Reaches (questions g) ps f) e (reaches (questions g) ps u f i (follows g ps w) h.within h.left) in record { within = k.0; left = k.1 }
 
@@ -108,10 +108,8 @@ next_done (done a) = refl
 next_done bits = refl
 next_done (ask q y n) = λ i. ask q (next_done y i) (next_done n i)
 
--- where it comes to
 pub come_on : (g : Goal) (ps : List Taken) (p : Standing) (o : Evaluation Ends) → IsPath g ps → IsOn g ps p → along ps p.left p.at ≡ o → Reaches (questions g) ps (λ x. done x) o
 come_on g ps p o w h e = subst (Reaches (questions g) ps (λ x. done x)) e (reaches (questions g) ps p.left (λ x. done x) p.at (follows g ps w) h.within (h.left ∙ ap (once (take p.at ps)) (sym (next_done p.left))))
 
--- what stands at the path's end, where it comes to its own end
 pub value_on : (g : Goal) (ps : List Taken) (p : Standing) (x : Ends) (j : ℕ) → IsPath g ps → IsOn g ps p → along ps p.left p.at ≡ value x j → end_at g ps ≡ done x
 value_on g ps p x j w h e = further (questions g) ps j ∙ ap (λ z. walk z (drop j ps)) (come_on g ps p (value x j) w h e).1

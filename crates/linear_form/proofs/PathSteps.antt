@@ -5,7 +5,6 @@ use Rattle.linear_form.specs.Query.{Query, Atom, Taken, holds_at, onto}
 use Rattle.linear_form.specs.Query.Query.{done, bits, ask}
 use Rattle.linear_form.specs.Paths.{walk, Path, Agrees}
 
--- Where the path ends in a question, each answer goes on.
 pub path_onto : {A : Type 0} (t : Query A) (ps : List Taken) (q : Atom) (y n : Query A) (b : Bool) → Path t ps → walk t ps ≡ ask q y n → Path t (onto ps q b)
 path_onto (done a) _ q y n b (Path.start _) e = absurd (cc)
 path_onto bits _ q y n b (Path.start _) e = absurd (cc)
@@ -17,7 +16,6 @@ path_onto {A} (ask r y' n') _ q y n b (Path.start _) e = go b
 path_onto (ask r y' n') _ q y n b (Path.yes _ _ _ ps p) e = Path.yes r y' n' (onto ps q b) (path_onto y' ps q y n b p e)
 path_onto (ask r y' n') _ q y n b (Path.no _ _ _ ps p) e = Path.no r y' n' (onto ps q b) (path_onto n' ps q y n b p e)
 
--- A state that agrees with a path agrees with it and its own answer.
 pub agrees_onto : (s : Env) (ps : List Taken) (q : Atom) (b : Bool) → Agrees s ps → holds_at q s ≡ b → Agrees s (onto ps q b)
 agrees_onto s [] q b h e = (e, tt)
 agrees_onto s (p ∷ ps) q b h e = (h.0, agrees_onto s ps q b h.1 e)

@@ -1,4 +1,4 @@
--- Places on a path: each stays on longer ones, and the first is before all questions.
+-- Places on a path: each is on longer paths, and the first is before all comparisons.
 use Rattle.std.proofs.Common.{◌≡◌, List, [], ◌++◌, sym, ap, ◌∙◌, subst, arith}
 use Rattle.std.proofs.lemmas.List.{take-append-le, length-append}
 use Rattle.heylo_formula.specs.Goals.{Goal}
@@ -21,7 +21,6 @@ place_stays g ps qs p h = record {
   left = subst (λ xs. end_at g xs ≡ once xs p.left) (sym (take-append-le p.at ps qs h.within)) h.left;
 }
 
--- before the first question
 pub begins : (g : Goal) (p : Part) (fs : List Frame) → IsGoalPart g p → fs ≡ [] → IsOn g [] (record { left = through (asked (part_of p)) fs; at = 0 })
 begins g p fs h n = record {
   within = omega arith;

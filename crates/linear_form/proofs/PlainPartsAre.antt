@@ -1,4 +1,4 @@
--- The plain part of each kind of part is the plain layer over the plain parts of its parts.
+-- The conversion of a part of each kind converts its parts.
 use Rattle.std.proofs.Common.{◌≡◌, sym, ap, ◌∙◌, subst}
 use Rattle.std.specs.declared.alloc.Global.{Global}
 use Rattle.std.specs.declared.rc.Rc.{Rc}
@@ -33,14 +33,12 @@ part_is p = fold-roll-Part _ _ _ _ _
 pub asked_part : (p : P.Part) → asked (part_of p) ≡ asked_by_work (work_of p.work)
 asked_part p = ap asked (part_is p)
 
--- what is noted of a part
 pub noted : (p : P.Part) → IsReady (part_of p) → IsSure p.asks (asked_by_work (work_of p.work)) × IsReadyWork (work_of p.work)
 noted p h = subst IsReady (part_is p) h
 
 pub ready_of : (p : P.Part) → IsSure p.asks (asked_by_work (work_of p.work)) → IsReadyWork (work_of p.work) → IsReady (part_of p)
 ready_of p h k = subst IsReady (sym (part_is p)) (h, k)
 
--- what a part does, read through a reference to it
 pub does : (p q : P.Part) (w : W.Work) → q ≡ p → q.work ≡ w → work_of p.work ≡ work_of w
 does p q w e h = ap (λ (p : P.Part). work_of p.work) (sym e) ∙ ap work_of h
 

@@ -1,4 +1,4 @@
--- Laws of trees of questions: the one path of a state, and what stands at its end.
+-- Laws of trees of comparisons: the path of a state, and the result at its end.
 use Rattle.std.proofs.Common.{◌≡◌, ℕ, List, [], ◌∷◌, refl, sym, ap, ◌∙◌, subst, arith, Bool, true, false, cond, ◌==◌}
 use Rattle.std.specs.Prelude.{Option, Some, None}
 use Rattle.heylo_formula.specs.State.{Env, truth_of}
@@ -6,7 +6,8 @@ use Rattle.linear_form.specs.Query.{Query, Atom, next, holds_at, Taken, known, k
 use Rattle.linear_form.specs.Query.Query.{done, bits, ask}
 use Rattle.linear_form.specs.Paths.{walk, Path, Agrees, Ended}
 
--- what the state's answers lead to, if they lead to a result, is such
+-- `Ends t s P`: if the answers of the state `s` lead to a result of the tree `t`, it has the
+-- property `P`.
 abbrev pub Ends : {A : Type 0} → Query A → Env → (A → Type 0) → Type 0
 Ends (done a) s P = P a
 Ends bits s P = Unit {0}
@@ -44,7 +45,6 @@ ends_once ps (ask (Atom.truth x) y n) s P k h = go (known x ps) refl (λ e. ends
     go (Some false) e a b y' n' = b (known_is x ps s false k e)
     go None e a b y' n' = (y', n')
 
--- the path that a state takes
 abbrev pub path_in : {A : Type 0} → Query A → Env → List Taken
 path_in (done a) s = []
 path_in bits s = []
@@ -75,7 +75,6 @@ abbrev got : {A : Type 0} → A → Query A → A
 got d (done a) = a
 got d _ = d
 
--- at the end of a path that agrees with the state stands what the state's answers lead to
 pub walk_ends : {A : Type 0} (t : Query A) (s : Env) (P : A → Type 0) (ps : List Taken) (a : A) → Ends t s P → Path t ps → Agrees s ps → walk t ps ≡ done a → P a
 walk_ends (done b) s P _ a h (Path.start _) g e = subst P (ap (got b) e) h
 walk_ends bits s P _ a h (Path.start _) g e = absurd (cc)

@@ -1,4 +1,5 @@
--- Parts that are ready: what they come to before all answers, and whether they surely ask a comparison.
+-- Parts that are evaluated in advance: their results, and whether they surely ask a comparison of
+-- numbers.
 use Rattle.std.proofs.Common.{◌≡◌, ℕ, [], ◌∷◌, refl, sym, ap, ap₂, ◌∙◌, subst, Bool, true, false, cond, ◌⊎◌, inl, inr, Global}
 use Prim.Native.Nat.{suc}
 use Rattle.std.specs.declared.rc.Rc.{Rc}
@@ -31,9 +32,8 @@ use Rattle.linear_form.proofs.PlainPartsAre.{asked_part, asks_work, choice_work,
 use Rattle.linear_form.proofs.Runs.{run_result}
 use Rattle.linear_form.proofs.SureQuestions.{lasts_bits, lasts_first, chosen_lasts}
 
--- ---- What is told before all answers
+-- ---- Results without an answer
 
--- what comes without an answer asks nothing
 asks_nothing : {A : Type 0} (t : Query A) (j : ℕ) (x : A) → along [] t 0 ≡ value x j → t ≡ done x
 unfolding along
 asks_nothing (done a) j x e = let k : a ≡ x = cc in ap done k
@@ -41,7 +41,6 @@ asks_nothing bits j x e = absurd (cc)
 asks_nothing (ask (Atom.row a strict) y n) j x e = absurd (cc)
 asks_nothing (ask (Atom.truth v) y n) j x e = absurd (cc)
 
--- a tree whose first question is a comparison
 first_asks : (t : Query Result) (a : Atom) → along [] t 0 ≡ decide a → IsComparison a → Lasts 1 t
 unfolding along Lasts
 first_asks (done r) a e h = absurd (cc)
@@ -50,7 +49,7 @@ first_asks (ask (Atom.row l strict) y n) a e h = (tt, tt)
 first_asks (ask (Atom.truth x) y n) (Atom.row l strict) e h = absurd (cc)
 first_asks (ask (Atom.truth x) y n) (Atom.truth z) e h = absurd h
 
--- ---- What is asked first of a comparison is all of it
+-- ---- A comparison of values asks one comparison, and its answer is the result
 
 asked_alone : (ts : Terms) (l : Lin) (strict : Bool) (a : Atom) → along [] (told (q.asked ts l strict)) 0 ≡ decide a → told (q.asked ts l strict) ≡ answer_of a
 unfolding along
@@ -86,7 +85,7 @@ over_alone o f (Result.number x) (Result.ends z) a e g h = absurd (cc)
 over_alone o f (Result.truth t) s a e g h = absurd (cc)
 over_alone o f (Result.ends z) s a e g h = absurd (cc)
 
--- ---- What is done with two parts that are known
+-- ---- Operations on two known parts
 
 pub known_asks : (p : P.Part) (x : Result) → work_of p.work ≡ Work.known x → asked (part_of p) ≡ done x
 known_asks p x e = asked_part p ∙ ap asked_by_work e
@@ -109,7 +108,6 @@ stop_tells o p u x y (S.TheVariants.Decide a) e f h = record { first = ap (λ t.
 stop_tells o p u x y S.TheVariants.Bits e f h = tt
 stop_tells o p u x y (S.TheVariants.Memory m) e f h = tt
 
--- a question that is asked first
 pub decided : (o : Operation) (p u : Part) (e : Stop) (a : Rc A.Atom Global) → e ≡ S.TheVariants.Decide a → TellsAtOnce o p u (Err e) → IsFirst o p u (atom_of a.value)
 decided o p u e a k h = subst (λ e. TellsAtOnce o p u (Err e)) k h
 
@@ -122,7 +120,6 @@ compared n (inr k) = subst (λ n. Compares (Operation.Of n)) (sym k.2) (Compares
 
 -- ---- Parts that surely ask
 
--- what is noted of a part
 pub part_asks : (p q : P.Part) → q ≡ p → IsReady (part_of p) → IsTrue q.asks → Lasts 1 (asked (part_of p))
 part_asks p q e h t = subst (Lasts 1) (sym (asked_part p)) ((noted p h).0 (ap (λ (p : P.Part). p.asks) (sym e) ∙ t))
 
@@ -148,32 +145,27 @@ unfolding Lasts
 arms_last (Atom.row l strict) y n h g = (tt, tt)
 arms_last (Atom.truth x) y n h g = (h, g)
 
--- ---- The part that is made
+-- ---- The resulting part
 
 as_work : (w : Work) (p : P.Part) → asked_by_work (work_of p.work) ≡ asked_by_work w → (IsTrue p.asks → Lasts 1 (asked_by_work w)) → IsReadyWork (work_of p.work) → IsReadyAs w p
 as_work w p e h k = record { asks = asked_part p ∙ e; ready = ready_of p (λ t. subst (Lasts 1) (sym e) (h t)) k }
 
--- what is done stays
 pub stays_ready : (w : Work) (v : W.Work) (b : Bool) → asked_by_work (work_of v) ≡ asked_by_work w → IsReadyWork (work_of v) → (IsTrue b → Lasts 1 (asked_by_work (work_of v))) → IsReadyAs w (record { work = v; asks = b })
 stays_ready w v b e k h = as_work w (record { work = v; asks = b }) e (λ t. subst (Lasts 1) e (h t)) k
 
--- it is known
 pub known_ready : (w : Work) (v : W.Work) (o : O.Outcome) → asked_by_work (work_of v) ≡ asked_by_work w → (asked_by_work (work_of v) ≡ done (outcome_of o)) × IsKeptResult (outcome_of o) → IsReadyAs w (record { work = W.TheVariants.Known o; asks = false })
 known_ready w v o e h = as_work w (record { work = W.TheVariants.Known o; asks = false }) (ap asked_by_work (known_work o) ∙ sym h.0 ∙ e) (λ t. absurd (cc)) (subst IsReadyWork (sym (known_work o)) h.1)
 
--- it asks this first
 pub first_ready : (w : Work) (v : W.Work) (o : Operation) (p u : Part) (a : Atom) (b : Bool) → work_of v ≡ Work.two o p u → asked_by_work (work_of v) ≡ asked_by_work w → IsReadyWork (work_of v) → (IsTrue b → IsComparison a) → IsFirst o p u a → IsReadyAs w (record { work = v; asks = b })
 first_ready w v o p u a b d e k h f = stays_ready w v b e k (λ t. subst (Lasts 1) (sym (ap asked_by_work d)) (first_asks (asked_by_work (Work.two o p u)) a f.first (h t)))
 
--- it is this question
 pub alone_ready : (w : Work) (v q : W.Work) (o : Operation) (p u : Part) (a : Atom) (b : Bool) → work_of v ≡ Work.two o p u → asked_by_work (work_of v) ≡ asked_by_work w → (IsTrue b → IsComparison a) → IsFirst o p u a → Compares o → work_of q ≡ Work.asks a (known_part (Result.truth true)) (known_part (Result.truth false)) → IsReadyAs w (record { work = q; asks = b })
 alone_ready w v q o p u a b d e h f g k =
     let same : asked_by_work (Work.two o p u) ≡ asked_by_work w = sym (ap asked_by_work d) ∙ e in
     as_work w (record { work = q; asks = b }) (ap asked_by_work k ∙ sym (f.alone g) ∙ same) (λ t. subst (Lasts 1) same (first_asks (asked_by_work (Work.two o p u)) a f.first (h t))) (subst IsReadyWork (sym k) (((λ t. absurd (cc)), tt), ((λ t. absurd (cc)), tt)))
 
--- ---- A question, and what follows
+-- ---- A comparison, and what follows each answer
 
--- what is done, where its operand asks a question
 pub question_of : (w : Work) (s : Part) (a : Atom) (y n one other : Part) (b : Bool) → s ≡ Part.part (Work.asks a y n) b → w ≡ with_operand w s → IsOver w y one → IsOver w n other → asked_by_work (Work.asks a one other) ≡ asked_by_work w
 question_of (Work.known r) s a y n one other b e f h g = absurd h.before
 question_of Work.large s a y n one other b e f h g = absurd h.before
@@ -187,27 +179,23 @@ question_of (Work.two o p u) s a y n one other b e f h g =
     ap₂ (ask a) one_is other_is ∙ sym whole ∙ sym (ap asked_by_work f)
 question_of (Work.choice c p u) s a y n one other b e f h g = ap₂ (ask a) h.asks g.asks ∙ sym (ap (λ q. next q (of_bool (λ t. cond t (asked p) (asked u)))) (ap asked e)) ∙ sym (ap asked_by_work f)
 
--- what comes at once of a part and of what follows it comes of the part at once
 done_first : {A B : Type 0} (q : Query A) (f : A → Query B) (r : B) → next q f ≡ done r → (x : A) × (q ≡ done x)
 done_first (done x) f r e = (x, refl)
 done_first bits f r e = absurd (cc)
 done_first (ask a y n) f r e = absurd (cc)
 
--- what is done over a part that is known
 pub two_over : (w : W.Work) (o : Operation) (f s : Rc P.Part Global) (d q r : P.Part) (y : O.Outcome) → w ≡ W.TheVariants.Two o f s → d ≡ f.value → TellsAtOnce o (part_of d) (part_of q) (Ok y) → part_of r ≡ Part.part (work_of (W.TheVariants.Known y)) false → IsOver (work_of w) (part_of q) (part_of r)
 two_over w o f s d q r y e g h k =
     let known : part_of r ≡ known_part (outcome_of y) = k ∙ ap (λ w. Part.part w false) (known_work y) in
     let told : asked_by_work (Work.two o (part_of f.value) (part_of q)) ≡ done (outcome_of y) = ap (λ d. asked_by_work (Work.two o (part_of d) (part_of q))) (sym g) ∙ h.0 in
     subst (λ v. IsOver v (part_of q) (part_of r)) (sym (ap work_of e ∙ two_work o f s)) (record { before = done_first (asked (part_of f.value)) _ (outcome_of y) told; asks = ap asked known ∙ sym told; ready = subst IsReady (sym known) ((λ t. absurd (cc)), h.1) })
 
--- the part that asks is the operand
 pub two_operand : (w : W.Work) (o : Operation) (f s : Rc P.Part Global) (d : P.Part) → w ≡ W.TheVariants.Two o f s → d ≡ s.value → work_of w ≡ with_operand (work_of w) (part_of d)
 two_operand w o f s d e g = let is = ap work_of e ∙ two_work o f s in is ∙ ap (λ d. Work.two o (part_of f.value) (part_of d)) (sym g) ∙ sym (ap (λ v. with_operand v (part_of d)) is)
 
 pub choice_operand : (w : W.Work) (g p u : Rc P.Part Global) (d : P.Part) → w ≡ W.TheVariants.Choice g p u → d ≡ g.value → work_of w ≡ with_operand (work_of w) (part_of d)
 choice_operand w g p u d e h = let is = ap work_of e ∙ choice_work g p u in is ∙ ap (λ d. Work.choice (part_of d) (part_of p.value) (part_of u.value)) (sym h) ∙ sym (ap (λ v. with_operand v (part_of d)) is)
 
--- then it is the question
 pub asks_ready : (w : W.Work) (s : P.Part) (a c : Rc A.Atom Global) (y n one other : Rc P.Part Global) → work_of w ≡ with_operand (work_of w) (part_of s) → s.work ≡ W.TheVariants.Asks a y n → c.value ≡ a.value → IsOver (work_of w) (part_of y.value) (part_of one.value) → IsOver (work_of w) (part_of n.value) (part_of other.value) → (asked_by_work (work_of (W.TheVariants.Asks c one other)) ≡ asked_by_work (work_of w)) × IsReadyWork (work_of (W.TheVariants.Asks c one other))
 asks_ready w s a c y n one other e g d h k = (
   ap asked_by_work (asks_work c one other) ∙ ap (λ v. ask (atom_of v) (asked (part_of one.value)) (asked (part_of other.value))) d ∙ question_of (work_of w) (part_of s) (atom_of a.value) (part_of y.value) (part_of n.value) (part_of one.value) (part_of other.value) s.asks (part_is s ∙ ap (λ w. Part.part w s.asks) (ap work_of g ∙ asks_work a y n)) e h k,

@@ -1,4 +1,5 @@
--- Where the row of an answer stands on the path already, one more answer leaves the rows of the signs as they are.
+-- If the row of an answer is among the rows of the path already, one more answer does not change
+-- the rows of the signs.
 use Rattle.std.proofs.Common.{◌≡◌, ℕ, List, [], ◌∷◌, ◌++◌, length, refl, sym, ap, ap₂, ◌∙◌, subst, Bool, true, false, not, cond, ◌==◌, ◌&&◌, ◌||◌}
 use Rattle.std.specs.Prelude.{Some}
 use Prim.Native.Nat.{zero, suc}
@@ -24,7 +25,7 @@ use Rattle.linear_form.proofs.DeniedGoalPlaces.{two_parts}
 use Rattle.linear_form.proofs.RowsOfClaims.{joined, tightened_append, not_zero}
 use Rattle.linear_form.proofs.SignRows.{claims_occur}
 
--- ---- A row that stands there brings no variable
+-- ---- A repeated row brings no variable
 
 none_each : (x : ℕ) (rows : List Row) → list_any (occurs_in_row x) rows ≡ false → All (λ r. occurs_in_row x r ≡ false) rows
 none_each x [] e = All-nil (λ r. occurs_in_row x r ≡ false)
@@ -44,7 +45,7 @@ occurs_already x rows r c = list_any-append (occurs_in_row x) rows (r ∷ []) �
 claims_repeat : (types : Types) (x : ℕ) (ks ls : List Claim) (rows : List Row) (r : Row) → all_tightened types ks ≡ Some rows → all_tightened types ls ≡ Some (rows ++ (r ∷ [])) → Contains rows r → occurs_in_claims x ls ≡ occurs_in_claims x ks
 claims_repeat types x ks ls rows r e f c = sym (claims_occur types x ls (rows ++ (r ∷ [])) f) ∙ occurs_already x rows r c ∙ claims_occur types x ks rows e
 
--- ---- An answer and the other one are about the same variables
+-- ---- An answer and the opposite answer are about the same variables
 
 times_occurs : (x : ℕ) (w : Rational) (ts : Terms) → occurs_in_terms x (times w ts) ≡ occurs_in_terms x ts
 times_occurs x w [] = refl

@@ -1,4 +1,4 @@
--- The rows of claims, one after the other.
+-- The rows of claims in order.
 use Rattle.std.proofs.Common.{◌≡◌, List, [], ◌∷◌, ◌++◌, refl, sym, ap, ap₂, ◌∙◌, subst, append_assoc, Bool, false, cond, ◌&&◌}
 use Rattle.std.specs.Prelude.{Option, Some, None}
 use Rattle.heylo_formula.specs.Typing.{Types}
@@ -51,7 +51,7 @@ follows rows made None q e = absurd (cc)
 pub then_more : (types : Types) (rows made : List Row) (ks ls : List Claim) → rows_with types rows ks ≡ Some made → rows_with types rows (ks ++ ls) ≡ rows_with types made ls
 then_more types rows made ks ls e = ap (followed_by rows) (tightened_append types ks ls) ∙ follows rows made (all_tightened types ks) (all_tightened types ls) e
 
--- ---- Negation keeps sizes
+-- ---- Negation preserves sizes
 
 negated_terms_fit : (ts : Terms) → all_fit (times minus_oneʳ ts) ≡ all_fit ts
 negated_terms_fit [] = refl

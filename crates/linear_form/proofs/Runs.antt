@@ -48,7 +48,6 @@ run_bits ps i = refl
 pub run_after : {A C : Type 0} (ps : List Taken) (t : Query A) (f : A → Query C) (i j : ℕ) (x : A) → along ps t i ≡ value x j → along ps (next t f) i ≡ along ps (f x) j
 run_after ps t f i j x h = run_next ps t f i ∙ ap (λ z. onward z (λ x j. along ps (f x) j)) h
 
--- where the first part stops, all stops
 pub stops_first : {A C : Type 0} (e : Stop) (ps : List Taken) (t : Query A) (f : A → Query C) (i : ℕ) → Stops e (along ps t i) → Stops e (along ps (next t f) i)
 stops_first (S.TheVariants.Decide q) ps t f i h = run_next ps t f i ∙ ap (λ z. onward z (λ x j. along ps (f x) j)) h
 stops_first S.TheVariants.Bits ps t f i h = run_next ps t f i ∙ ap (λ z. onward z (λ x j. along ps (f x) j)) h
@@ -72,7 +71,6 @@ turned_at [] i p q y n h e = absurd (omega arith)
 turned_at (x ∷ ps) zero p q y n h e = ap (λ (z : T.Taken). cond z.held y n) (sym e)
 turned_at (x ∷ ps) (suc i) p q y n h e = turned_at ps i p q y n (omega arith) e
 
--- a value of an evaluation is a result of the tree
 turned_result : {A : Type 0} (ps : List Taken) (q : Atom) (o p : Evaluation A) (P : A → Type 0) (a : A) (j : ℕ) → (o ≡ value a j → P a) → (p ≡ value a j → P a) → turned ps q o p ≡ value a j → P a
 turned_result [] q o p P a j f g e = absurd (cc)
 turned_result (t ∷ ps) q o p P a j f g e = go t.held e

@@ -1,4 +1,4 @@
--- A path has at most as many questions as the two forms have nodes.
+-- A path has at most as many comparisons as the two forms have nodes.
 use Rattle.std.proofs.Common.{ℕ, ◌+◌, ◌<◌, ◌≤◌, List, [], ◌∷◌, length, arith, Bool, true, false, cond}
 use Rattle.std.specs.Prelude.{max, Option, Some, None}
 use Rattle.heyvl_num.specs.Rational.{Rational}
@@ -14,13 +14,12 @@ use Rattle.linear_form.specs.Questions.{Ends, sized, asked, is_below, evaluate, 
 use Rattle.linear_form.specs.Paths.{Path}
 use Rattle.linear_form.specs.PathLaws.{PathsAreShort}
 
--- The most questions on a path of a tree.
+-- `longest t`: the largest number of comparisons on a path of the tree `t`.
 abbrev longest : {A : Type 0} → Query A → ℕ
 longest (done a) = 0
 longest bits = 0
 longest (ask q y n) = 1 + max (longest y) (longest n)
 
--- What follows the results adds its own questions.
 longest_next : {A B : Type 0} (t : Query A) (f : A → Query B) (m : ℕ) → ((a : A) → longest (f a) ≤ m) → longest (next t f) ≤ longest t + m
 longest_next (done a) f m h = let k = h a in omega (arith, k)
 longest_next bits f m h = omega arith
@@ -36,7 +35,7 @@ longest_two false t u m h k = k
 none_asked : 0 ≤ 1
 none_asked = omega arith
 
--- ---- The operators ask at most one question, but for the test of equality, which asks at most two
+-- ---- An operator asks at most one comparison, equality at most two
 
 sized_short : (x : Linear) → longest (sized x) ≤ 0
 sized_short None = omega arith
@@ -135,7 +134,7 @@ less_short None y = omega arith
 equal_short : (x y : Linear) → longest (q.equal x y) ≤ 2
 equal_short x y = let i = longest_next (q.at_most x y) (λ t. cond t (q.at_most y x) (done false)) 1 (λ t. longest_two t (q.at_most y x) (done false) 1 (at_most_once y x) (omega arith)) in let j = at_most_once x y in omega (arith, i, j)
 
--- ---- Forms and conditions: a form has fewer questions than nodes, a condition at most as many
+-- ---- A form asks fewer comparisons than it has nodes, a condition at most as many
 
 two_parts : {B : Type 0} (t u : Query Linear) (f : Linear → Linear → Query B) (m n : ℕ) → longest t < m → longest u < n → ((x y : Linear) → longest (f x y) ≤ 1) → longest (both t u f) < 1 + (m + n)
 two_parts t u f m n h k g = let i = longest_both t u f 1 g in omega (arith, h, k, i)
@@ -152,7 +151,6 @@ of_test t f m h g = let i = longest_next t f 0 g in omega (arith, h, i)
 then_part : {A B : Type 0} (t : Query A) (f : A → Query B) (m n : ℕ) → longest t ≤ m → ((x : A) → longest (f x) ≤ n) → longest (next t f) < 1 + (m + n)
 then_part t f m n h g = let i = longest_next t f n g in omega (arith, h, i)
 
--- one of two parts follows
 choice : {A : Type 0} (b : Bool) (t u : Query A) (m n : ℕ) → longest t ≤ m → longest u ≤ n → longest (cond b t u) ≤ m + n
 choice b t u m n h k = longest_two b t u (m + n) (omega (arith, h)) (omega (arith, k))
 
@@ -196,7 +194,6 @@ mutual
 
 -- ---- The tree of a goal and its paths
 
--- A truth that is known isn't asked again.
 once_short : {A : Type 0} (ps : List Taken) (t : Query A) → longest (once ps t) ≤ longest t
 once_short ps (done a) = omega arith
 once_short ps bits = omega arith

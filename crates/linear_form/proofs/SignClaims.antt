@@ -1,4 +1,4 @@
--- The row by which a variable isn't negative is that of its claim.
+-- The sign row of a variable is the row of its claim.
 use Rattle.std.proofs.Common.{◌≡◌, ℕ, ◌+◌, add-one, List, [], ◌∷◌, ◌++◌, map, refl, sym, ap, ◌∙◌, false, cond, ◌&&◌}
 use Rattle.std.specs.Prelude.{Some, None}
 use Rattle.std.proofs.lemmas.List.{map-append}
@@ -29,7 +29,6 @@ sign_follows types rows x = ap (λ o. followed_by rows (with_row o (Some []))) (
 abbrev pub sign_claims : List ℕ → List Claim
 sign_claims xs = map (λ x. claim (negated (variable x)) false) xs
 
--- The rows of the signs of the unsigned variables below a number, and those below the next.
 pub sign_passed : (types : Types) (rows made : List Row) (n : ℕ) → rows_with types rows (sign_claims (all_unsigned_in types rows n)) ≡ Some made → None ≡ unsigned_in types rows n → rows_with types rows (sign_claims (all_unsigned_in types rows (n + 1))) ≡ Some made
 sign_passed types rows made n h e = ap (λ m. rows_with types rows (sign_claims (all_unsigned_in types rows m))) (add-one n) ∙ ap (λ o. rows_with types rows (sign_claims (one_more (all_unsigned_in types rows n) o))) (sym e) ∙ h
 

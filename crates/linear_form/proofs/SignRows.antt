@@ -56,7 +56,7 @@ signs_same : (types : Types) (ks : List Claim) (rows : List Row) (n : ℕ) → a
 signs_same types ks rows zero e = refl
 signs_same types ks rows (suc n) e = one_sign (λ x. claim (negated (variable x)) false) (all_unsigned_in types rows n) n (is_unsigned_type (types n) && list_any (occurs_in_row n) rows) ∙ ap₂ (λ ls b. ls ++ cond (is_unsigned_type (types n) && b) (claim (negated (variable n)) false ∷ []) []) (signs_same types ks rows n e) (claims_occur types n ks rows e)
 
--- ---- The rows as a whole
+-- ---- All rows
 
 pub bits_first : (tys' tys : List Ty) (ks ls : List Claim) → tys' ≡ tys → all_tightened (types_in tys') ks ≡ None → all_tightened (types_in tys) (ks ++ ls) ≡ None
 bits_first tys' tys ks ls e h = tightened_append (types_in tys) ks ls ∙ ap (λ o. joined o (all_tightened (types_in tys) ls)) (ap (λ z. all_tightened (types_in z) ks) (sym e) ∙ h)

@@ -17,12 +17,10 @@ use Rattle.linear_values.specs.Lin.{minus, plus, scaled}
 use Rattle.linear_form.specs.Query.{Atom}
 use Rattle.linear_form.specs.Splits.{split_at}
 
--- its terms are the variable, and its constant is the negative of the number
 pub split_parts : (x : ℕ) (m : ℤ) → Atom.row (record { terms = (x, oneʳ) ∷ []; rest = minus_oneʳ *ʳ whole m }) false ≡ split_at x m
 unfolding minus plus scaled is_zeroʳ minus_oneʳ ratio gcd gcd_steps
 split_parts x m = ap (λ r. Atom.row (record { terms = (x, oneʳ) ∷ []; rest = r }) false) (sym (zero-+ʳ (minus_oneʳ *ʳ whole m)))
 
--- the negative of a machine's whole number fits
 negative_fits : (n : ℤ) → FitsSigned w64 n → product_fits minus_oneʳ (whole n) ≡ true
 unfolding product_fits minus_oneʳ ratio gcd gcd_steps
 negative_fits n h = ap₂ (λ a d. is_small (negsuc 0 *ℤ a) && is_small (pos 1 *ℤ pos d)) (whole_num n) (whole_den n) ∙ ap₂ (λ a b. a && b) (small (negsuc 0 *ℤ n) (omega (arith, ints))) (small (pos 1 *ℤ pos 1) (lit< tt))

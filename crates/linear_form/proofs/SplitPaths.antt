@@ -1,4 +1,4 @@
--- Paths with splits behind their questions.
+-- Paths with splits after their last comparison.
 use Rattle.std.proofs.Common.{◌≡◌, ◌⊎◌, ℕ, List, [], ◌∷◌, ◌++◌, refl, sym, ap, ◌∙◌, subst, Bool, true, false, cond, inl, inr, append_assoc}
 use Rattle.std.specs.Prelude.{ℤ}
 use Rattle.std.proofs.lemmas.List.{append-nil}
@@ -16,15 +16,13 @@ use Rattle.linear_form.specs.PlainPaths.{path_of}
 use Rattle.linear_form.specs.declared.paths.Taken as T
 use Rattle.linear_form.proofs.PathSteps.{path_onto}
 
--- A path of questions alone.
 pub plain_path : (g : Goal) (ps : List Taken) → IsQuestionPath g ps → IsPath g ps
 plain_path g ps h = record { asked = ps; splits = []; parts = sym (append-nil ps); is_asked = h; are_splits = All-nil (IsSplit g.types); at_end = inl refl }
 
--- the path without an answer
 pub empty_path : (g : Goal) (ps : List T.Taken) → ps ≡ [] → IsPath g (path_of ps)
 empty_path g ps e = subst (λ (ps : List T.Taken). IsPath g (path_of ps)) (sym e) (plain_path g [] (Path.start (questions g)))
 
--- ---- The end of a path is that of its questions
+-- ---- The end of a path is that of its comparisons
 
 pub walk_nil : {A : Type 0} (t : Query A) → walk t [] ≡ t
 walk_nil (done a) = refl
@@ -48,7 +46,6 @@ end_same g ps h = go h.at_end
     go (inl e) = ap (end_at g) (h.parts ∙ ap (λ ss. h.asked ++ ss) e ∙ append-nil h.asked)
     go (inr k) = ap (end_at g) h.parts ∙ walk_append (questions g) h.asked h.splits ∙ ap (λ t. walk t h.splits) k.1 ∙ sym k.1
 
--- Where a question stands at the end of the path, there are no splits.
 pub only_questions : (g : Goal) (ps : List Taken) (q : Atom) → IsPath g ps → Asks g ps q → IsQuestionPath g ps
 only_questions g ps q h a = go h.at_end
   where
@@ -58,11 +55,9 @@ only_questions g ps q h a = go h.at_end
 
 -- ---- One more answer
 
--- The path goes on with each answer to its question.
 pub asked_onto : (g : Goal) (ps : List Taken) (q : Atom) (b : Bool) → IsPath g ps → Asks g ps q → IsPath g (onto ps q b)
 asked_onto g ps q b h a = plain_path g (onto ps q b) (path_onto (questions g) ps q a.yes a.no b (only_questions g ps q h a) a.question)
 
--- At an end it goes on with each answer to a split of a whole variable.
 pub split_onto : (g : Goal) (ps : List Taken) (x : ℕ) (m : ℤ) (b : Bool) (e : Ends) → IsPath g ps → end_at g ps ≡ done e → is_integral (types_in g.types x) ≡ true → IsPath g (onto ps (split_at x m) b)
 split_onto g ps x m b e h k i = record {
   asked = h.asked;
@@ -73,9 +68,8 @@ split_onto g ps x m b e h k i = record {
   at_end = inr (e, sym (end_same g ps h) ∙ k);
 }
 
--- ---- Its questions
+-- ---- The comparisons of a path
 
--- A state that agrees with a path agrees with the first part of it.
 agrees_first : (s : Env) (qs ss : List Taken) → Agrees s (qs ++ ss) → Agrees s qs
 agrees_first s [] ss h = tt
 agrees_first s (q ∷ qs) ss h = (h.0, agrees_first s qs ss h.1)

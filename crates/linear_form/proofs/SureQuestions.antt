@@ -1,4 +1,4 @@
--- Trees of questions that surely ask comparisons, and what that says of the end of a path.
+-- Trees that surely ask comparisons of numbers, and what follows for the ends of paths.
 use Rattle.std.proofs.Common.{◌≡◌, ℕ, List, [], ◌∷◌, ◌++◌, sym, ap, ◌∙◌, subst, arith, Bool, true, false, cond, length}
 use Rattle.std.proofs.lemmas.List.{take_all}
 use Prim.Native.Nat.{zero, suc}
@@ -40,7 +40,6 @@ lasts_first (suc k) bits f h = tt
 lasts_first (suc k) (ask (Atom.row a strict) y n) f h = (lasts_first k y f h.0, lasts_first k n f h.1)
 lasts_first (suc k) (ask (Atom.truth x) y n) f h = (lasts_first (suc k) y f h.0, lasts_first (suc k) n f h.1)
 
--- what follows each result that there can be
 pub lasts_each : {A B : Type 0} (P : A → Type 0) (k : ℕ) (t : Query A) (f : A → Query B) → EachResult P t → ((a : A) → P a → Lasts k (f a)) → Lasts k (next t f)
 unfolding Lasts
 lasts_each P zero t f h g = tt
@@ -57,7 +56,6 @@ each_any (ask q y n) = (each_any y, each_any n)
 pub lasts_later : {A B : Type 0} (k : ℕ) (t : Query A) (f : A → Query B) → ((a : A) → Lasts k (f a)) → Lasts k (next t f)
 lasts_later k t f g = lasts_each (λ a. Unit {0}) k t f (each_any t) (λ a u. g a)
 
--- one comparison in the part, and one in what follows
 pub lasts_twice : {A B : Type 0} (t : Query A) (f : A → Query B) → Lasts 1 t → ((a : A) → Lasts 1 (f a)) → Lasts 2 (next t f)
 unfolding Lasts
 lasts_twice (done a) f h g = absurd h
@@ -69,14 +67,13 @@ pub chosen_lasts : {B : Type 0} (k : ℕ) (t : Bool) (q r : Query B) → Lasts k
 chosen_lasts k true q r h g = h
 chosen_lasts k false q r h g = g
 
--- ---- A tree that surely asks two comparisons isn't at its end after one answer
+-- ---- A tree that surely asks two comparisons is not at its end after one answer
 
 known_lasts : {A : Type 0} (k : ℕ) (o : Option Bool) (y n z : Query A) → Lasts k y → Lasts k n → Lasts k z → Lasts k (unless_known o y n z)
 known_lasts k (Some true) y n z h g l = h
 known_lasts k (Some false) y n z h g l = g
 known_lasts k None y n z h g l = l
 
--- comparisons are asked again
 lasts_once : {A : Type 0} (k : ℕ) (ps : List Taken) (t : Query A) → Lasts k t → Lasts k (once ps t)
 unfolding Lasts
 lasts_once zero ps t h = tt

@@ -18,7 +18,6 @@ use Rattle.linear_form.specs.Paths.{Path}
 use Rattle.linear_form.specs.PointLaws.{TruthsAreBooleans, TruthsHaveVariables}
 use Rattle.linear_form.proofs.TypedTrees.{IsTypedAtom, IsTypedPath, typed_path}
 
--- What holds of the variable of each truth that is asked for.
 abbrev OnAtom : (ℕ → Type 0) → Atom → Type 0
 OnAtom P (Atom.truth x) = P x
 OnAtom P (Atom.row a strict) = Unit {0}
@@ -40,7 +39,7 @@ on_two : (P : ℕ → Type 0) {A : Type 0} (b : Bool) (t u : Query A) → OnTrut
 on_two P true t u h k = h
 on_two P false t u h k = k
 
--- ---- The operators ask for rows
+-- ---- The operators ask comparisons of numbers
 
 on_sized : (P : ℕ → Type 0) (x : Linear) → OnTruths P (sized x)
 on_sized P None = tt
@@ -206,7 +205,6 @@ on_path P t _ h (Path.start _) = tt
 on_path P (ask q y n) _ h (Path.yes _ _ _ ps p) = (h.0, on_path P y ps h.1 p)
 on_path P (ask q y n) _ h (Path.no _ _ _ ps p) = (h.0, on_path P n ps h.2 p)
 
--- splits ask for no truth
 on_splits : (P : ℕ → Type 0) (types : List Ty) (ss : List Taken) → All (IsSplit types) ss → OnPath P ss
 on_splits P types [] k = tt
 on_splits P types (s ∷ ss) k = (subst (OnAtom P) (sym (All-head (IsSplit types) s ss k).atom) tt, on_splits P types ss (All-tail (IsSplit types) s ss k))

@@ -1,4 +1,5 @@
--- A typed goal asks about the variables that it may: linear values are of variables of numbers, and a truth is a Boolean's.
+-- A typed goal asks only about the variables that it may: linear values are over numeric variables,
+-- and a truth is that of a Boolean.
 use Rattle.std.proofs.Common.{◌≡◌, ℕ, List, [], ◌∷◌, ◌++◌, refl, sym, subst, Bool, true, false, cond, ◌&&◌, ◌==◌, ltb}
 use Rattle.std.specs.Prelude.{Option, Some, None}
 use Rattle.std.specs.List.{All}
@@ -58,7 +59,7 @@ pub minus_numbers : (types : Types) (a b : Lin) → NumberTerms types a.terms �
 unfolding minus
 minus_numbers types a b h k = plus_numbers types a (scaled minus_oneʳ b) h (scaled_numbers types minus_oneʳ b k)
 
--- ---- The results and the questions of a tree
+-- ---- The results and the comparisons of a tree
 
 abbrev pub IsNumberValue : Types → Linear → Type 0
 IsNumberValue types (Some a) = NumberTerms types a.terms
@@ -196,7 +197,6 @@ number_variable Ty.Int t e = refl
 number_variable Ty.UInt t e = refl
 number_variable Ty.UReal t e = refl
 
--- the types of the parts of a comparison
 compared : (o : Option NumberType) → is_finite_type o ≡ true → (j : NumberType) × (o ≡ Some j)
 compared (Some j) e = (j, refl)
 compared None e = absurd (cc)
@@ -285,7 +285,6 @@ splits_typed : (tys : List Ty) (ps : List Taken) → All (IsSplit tys) ps → Is
 splits_typed tys [] h = tt
 splits_typed tys (p ∷ ps) h = (split_typed tys p (All-head (IsSplit tys) p ps h), splits_typed tys ps (All-tail (IsSplit tys) p ps h))
 
--- A path of a typed goal asks about such variables.
 pub typed_path : (g : Goal) (ps : List Taken) → IsTypedGoal g → IsPath g ps → IsTypedPath (types_in g.types) ps
 typed_path g ps w p = subst (IsTypedPath (types_in g.types)) (sym p.parts) (typed_paths (types_in g.types) p.asked p.splits (path_typed (types_in g.types) (questions g) p.asked (AreNumberValues (types_in g.types)) (goal_typed g w) p.is_asked) (splits_typed g.types p.splits p.are_splits))
 
@@ -299,6 +298,5 @@ number_ends types (done e) h = h
 number_ends types bits h = tt
 number_ends types (ask q y n) h = tt
 
--- The values at the end of its path are of variables of numbers.
 pub typed_end : (g : Goal) (ps : List Taken) → IsTypedGoal g → IsPath g ps → AreNumberEnds (types_in g.types) (end_at g ps)
 typed_end g ps w p = subst (AreNumberEnds (types_in g.types)) (sym (end_same g ps p)) (number_ends (types_in g.types) (end_at g p.asked) (walk_typed (types_in g.types) (questions g) p.asked (AreNumberValues (types_in g.types)) (goal_typed g w) p.is_asked))

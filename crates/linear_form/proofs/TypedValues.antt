@@ -49,7 +49,7 @@ put_typed types s x ty v h = record { typed = λ y. go y (x == y) }
     go y true = fit_has ty v
     go y false = h.typed y
 
--- ---- Types and what they allow
+-- ---- The values of a type
 
 abbrev pub infinite_ok : NumberType → Bool
 infinite_ok NumberType.int = false
@@ -109,7 +109,6 @@ pub only : (b : Bool) (o : Option NumberType) (t : NumberType) → only_if b o �
 only true o t e = (refl, e)
 only false o t e = absurd (cc)
 
--- An unsigned type.
 pub record Unsigned (o : Option NumberType) : Type 0 where
   pub type : NumberType
   pub is : o ≡ Some type
@@ -146,7 +145,6 @@ or_right : (a b : Bool) → (a || b) ≡ false → b ≡ false
 or_right true b e = absurd (cc)
 or_right false b e = e
 
--- an operator that keeps finite values finite, and values from 0 on from 0 on
 binary : (op : Value → Value → Value) (p q : Option NumberType) (t : NumberType) (x y : Value) (h : Parts p q t) → Fits h.left x → Fits h.right y → (is_finite x ≡ true → is_finite y ≡ true → is_finite (op x y) ≡ true) → (zeroᵛ ≤ᵛ x → zeroᵛ ≤ᵛ y → zeroᵛ ≤ᵛ op x y) → Fits t (op x y)
 binary op p q t x y h fx fy keeps above = let a = allowed p q t h in record {
   finite = λ e. let f = sym a.0 ∙ e in keeps (fx.finite (or_left _ _ f)) (fy.finite (or_right (infinite_ok h.left) _ f));
@@ -234,7 +232,6 @@ unfolding covalidateᵛ
 co_validate_nonnegative (finite x) = either (λ v. zeroᵛ ≤ᵛ v) (is_zeroʳ x) zeroᵛ infinite zero-≤ᵛ-zero (≤ᵛ_infinite zeroᵛ)
 co_validate_nonnegative infinite = ≤ᵛ_infinite zeroᵛ
 
--- a value from 0 on is of the type of all formulas
 above : (t : NumberType) (v : Value) → t ≡ NumberType.eureal → zeroᵛ ≤ᵛ v → Fits t v
 above t v e h = record { finite = λ f. absurd (let g : true ≡ false = sym (ap infinite_ok e) ∙ f in cc); nonnegative = λ f. h }
 

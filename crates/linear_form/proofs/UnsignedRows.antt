@@ -1,4 +1,5 @@
--- An unsigned variable that occurs_in_row in the rows of a path has a row that says that it isn't negative.
+-- An unsigned variable that occurs in the rows of a path has a row that says that it is not
+-- negative.
 use Rattle.std.proofs.Common.{◌≡◌, ℕ, ◌+◌, ◌<◌, List, [], ◌∷◌, ◌++◌, length, refl, sym, ap, ap₂, ◌∙◌, subst, arith, Bool, true, false, cond, ◌==◌, ◌&&◌, ◌||◌, eqb}
 use Rattle.std.specs.Prelude.{Some}
 use Prim.Native.Nat.{zero, suc}
@@ -27,7 +28,7 @@ use Rattle.linear_form.proofs.ClaimedRows.{rows_claim}
 use Rattle.linear_form.proofs.DeniedRows.{Gives, gives_rows}
 use Rattle.linear_form.proofs.FalsifyingPoints.{first_claimed, second_claimed}
 
--- ---- Where a variable occurs_in_row in no claim, it occurs_in_row in no row
+-- ---- A variable that occurs in no claim occurs in no row
 
 or_false_first : (a b : Bool) → (a || b) ≡ false → a ≡ false
 or_false_first true b e = absurd (cc)
@@ -87,7 +88,7 @@ signs_lack types x ks (suc n) e = lack_append x (sign_claims types ks n) _ (sign
     go true false k b i = refl
     go false a k b i = refl
 
--- ---- The sign of a variable that occurs_in_row
+-- ---- The sign of a variable that occurs
 
 sign_at : (types : Types) (s : Env) (ks : List Claim) (n x : ℕ) → x < n → is_unsigned_type (types x) ≡ true → occurs_in_claims x ks ≡ true → AllClaimed s (sign_claims types ks n) → IsClaimed s (claim (negated (variable x)) false)
 sign_at types s ks zero x l u o h = absurd (omega (arith, l))

@@ -1,2 +1,2 @@
--- Meant for the proofs of other crates. The law of the ends of paths, for the crates above.
+-- For the proofs of other crates: the law of the ends of paths.
 pub use Rattle.linear_form.proofs.AgreedEnds.{ends_are_values}

@@ -1,2 +1,3 @@
--- Meant for the proofs of other crates. A state that meets the rows of a path and has its truths agrees with it, and with the denied goal among them the goal fails.
+-- For the proofs of other crates: a state that has the truths of a path and satisfies its rows
+-- agrees with it; with the denied goal among the rows, the goal fails.
 pub use Rattle.linear_form.proofs.FalsifyingPoints.{points_falsify}

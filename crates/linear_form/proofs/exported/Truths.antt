@@ -1,2 +1,2 @@
--- Meant for the proofs of other crates. The truths that a goal asks for are those of its free Boolean variables.
+-- For the proofs of other crates: the truths that a goal asks for are those of its free Booleans.
 pub use Rattle.linear_form.proofs.Truths.{truths_booleans, truths_variables}
