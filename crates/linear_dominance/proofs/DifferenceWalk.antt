@@ -1,4 +1,4 @@
--- How the code walks over the difference of two lists of terms.
+-- The walk of the program over the difference of two lists of terms.
 use Rattle.std.proofs.Common.{◌≡◌, ℕ, ◌+◌, ◌<◌, ◌≤◌, ◌^◌, List, [], ◌∷◌, length, drop, get_or, refl, sym, ap, ap₂, ◌∙◌, subst, arith, drop-cons, Bool, true, false, cond, eqb, ltb, ◌&&◌, to_z, of_z}
 use Rattle.std.specs.Prelude.{ℤ, pos, negsuc, ◌+ℤ◌, ◌-ℤ◌, ◌*ℤ◌, unsigned_abs}
 use borrow.Author.Differences.{ints}
@@ -35,13 +35,11 @@ put_nonzero v (pos zero) ts n = absurd (n refl)
 put_nonzero v (pos (suc a)) ts n = refl
 put_nonzero v (negsuc a) ts n = refl
 
--- a term before all others
 front : (v : ℕ) (c : ℤ) (ws : List (ℕ × ℤ)) → All (λ w. v < w.0) ws → add_term v c ws ≡ put_term v c ws
 unfolding add_term
 front v c [] h = refl
 front v c (w ∷ ws) h = let l = All-head (λ (w : ℕ × ℤ). v < w.0) w ws h in ap₂ (λ a b. cond a (put_term v (c +ℤ w.1) ws) (cond b (put_term v c (w ∷ ws)) (w ∷ add_term v c ws))) (differs v w.0 l) (under v w.0 l)
 
--- terms behind the first one
 past : (p : ℤ) (ts : List (ℕ × ℤ)) (u : ℕ × ℤ) (us : List (ℕ × ℤ)) → All (λ t. u.0 < t.0) ts → add_terms p ts (u ∷ us) ≡ u ∷ add_terms p ts us
 unfolding add_terms add_term
 past p [] u us h = refl
@@ -121,7 +119,8 @@ read_narrow ts i d l h = h i d l
 
 -- ---- Increases, term by term
 
--- What is left to see: whether what comes is an increase, or, where terms were seen, whether it has nothing else.
+-- The rest of the test: the remaining difference is an increase or, if there were terms before, has
+-- no other terms.
 abbrev pub still : Bool → List ℕ → List (ℕ × ℤ) → Bool
 still differs signed ts = cond differs (are_increases signed ts) (is_increase signed ts)
 
@@ -166,7 +165,7 @@ stops_unsigned b signed ts i us j v c k l f n h m e = sym (still_stops b signed 
 pub goes_signed : (b : Bool) (signed : List ℕ) (ts : List (ℕ × ℤ)) (i : ℕ) (us : List (ℕ × ℤ)) (j v : ℕ) (c : ℤ) (k l : ℕ) (f : Bool) → IsNextLess ts i us j v c k l → lt_z (pos 0) c ≡ true → true ≡ is_in v signed → still b signed (less (drop i ts) (drop j us)) ≡ f → still true signed (less (drop k ts) (drop l us)) ≡ f
 goes_signed b signed ts i us j v c k l f n h m e = sym (still_goes b signed v c (less (drop k ts) (drop l us)) (ap₂ (λ a d. a && d) h (sym m))) ∙ ap (still b signed) (sym (n.split ∙ put_nonzero v c (less (drop k ts) (drop l us)) (not_zero_above c h))) ∙ e
 
--- ---- The numbers that the code makes
+-- ---- The numbers of the program
 
 pub negated : (d : ℤ) → unsigned_abs d < 2 ^ 62 → to_z w64 (of_z w64 (pos 0 -ℤ to_z w64 (of_z w64 d))) ≡ negsuc 0 *ℤ d
 negated d h = omega (arith, ints, h)

@@ -1,4 +1,4 @@
--- A point that meets what is left meets what was dominated.
+-- A point that satisfies the rows that are left satisfies the dominated rows.
 use Rattle.std.proofs.Common.{◌≡◌, ◌⊎◌, inl, inr, ℕ, ◌+◌, ◌<◌, List, [], ◌∷◌, map, Bool, true, false, not, ◌&&◌, ◌||◌, cond, eqb, refl, sym, ap, subst, ◌∙◌, arith}
 use Rattle.std.specs.Prelude.{ℤ, pos, negsuc, ◌+ℤ◌, ◌*ℤ◌, ◌≤ℤ◌, ◌<ℤ◌, unsigned_abs}
 use borrow.Author.Differences.{ints}
@@ -48,7 +48,7 @@ all_increase : (signed : List ℕ) (ts : List (ℕ × ℤ)) → is_increase sign
 all_increase signed [] e = absurd (cc)
 all_increase signed (t ∷ ts) e = e
 
--- ---- What a row tells of one that it dominates
+-- ---- A row implies those that it dominates
 
 below_of : (s t : Bool) (a b : ℤ) → (s || not t) ≡ true → b ≤ℤ a → IsBelow s a → IsBelow t b
 below_of true true a b e l h = omega (arith, ints, l, h)
@@ -106,7 +106,6 @@ heavier signed s r e =
 
 -- ---- Sign rows are left
 
--- What holds of the elements that pass holds of each that passes.
 passed : {A : Type 0} (P : A → Type 0) (p : A → Bool) (xs : List A) → All P (filter p xs) → All (λ x. p x ≡ true → P x) xs
 passed P p [] h = All-nil (λ x. p x ≡ true → P x)
 passed P p (x ∷ xs) h = go (p x) refl (passed P p xs) h
@@ -155,9 +154,9 @@ signed_by w rows (r ∷ rs) h x e = go (is_sign_row r) refl (signed_by w rows rs
     go true k later q = one_of k later (or_true (eqb x (first_variable r.terms)) (is_in x (signed_variables rs)) q)
     go false k later q = later q
 
--- ---- Each row is left, or told by a heavier one
+-- ---- Each row is left, or implied by one with a larger weight
 
--- A row that lacks at most n of the weight `most` is met.
+-- A row whose weight is at most n below `most` is satisfied.
 abbrev IsMetNear : Point → ℤ → ℕ → Row → Type 0
 IsMetNear w most n r = most <ℤ (weight r +ℤ pos n) → Meets w r
 
@@ -180,7 +179,6 @@ nearer_met w rows most n r signs h left l = go (is_sign_row r) (list_any (λ s. 
     go false true e k = by_one w (signed_variables rows) most n r rows signs e h l
     go false false e k = k refl
 
--- All rows are below this weight.
 all_near : (w : Point) (rows : List Row) (most : ℤ) (n : ℕ) → AreSigned (signed_variables rows) w.top → All (λ r. weight r ≤ℤ most) rows → All (IsMetIfLeft w rows) rows → All (IsMetNear w most n) rows
 all_near w rows most zero signs b h = All-weaker (λ r. weight r ≤ℤ most) (IsMetNear w most zero) (λ r l k. absurd (none (weight r) most l k)) rows b
   where
@@ -188,7 +186,7 @@ all_near w rows most zero signs b h = All-weaker (λ r. weight r ≤ℤ most) (I
     none a m h k = omega (arith, ints, h, k)
 all_near w rows most (suc n) signs b h = All-weaker (IsMetIfLeft w rows) (IsMetNear w most (suc n)) (λ r left. nearer_met w rows most n r signs (all_near w rows most n signs b h) left) rows h
 
--- A number that no row's weight reaches.
+-- A bound on the weights of all rows.
 sizes : (rows : List Row) → (n : ℕ) × All (λ r. unsigned_abs (weight r) < n) rows
 sizes [] = (zero, All-nil _)
 sizes (r ∷ rs) = more (sizes rs)

@@ -1,4 +1,4 @@
--- Where no row is a sign row, no row is dominated.
+-- If no row is a sign row, no row is dominated.
 use Rattle.std.proofs.Common.{◌≡◌, ℕ, List, [], ◌∷◌, Bool, true, false, not, ◌&&◌, ◌||◌, refl, ap, ◌∙◌}
 use Rattle.std.specs.Prelude.{ℤ, pos}
 use Rattle.std.specs.Int.Signed.{lt_z}

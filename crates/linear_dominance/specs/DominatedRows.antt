@@ -1,5 +1,7 @@
--- Rows that another row implies, since each variable whose coefficient is greater there isn't negative. This project's own.
-use Rattle.std.specs.Prelude.{ℕ, List, [], ◌∷◌, map, ℤ, pos, negsuc, Bool, true, false, not, ◌&&◌, ◌||◌}
+-- Rows that another row implies, because each variable with a larger coefficient there is not
+-- negative. This project's own.
+use Rattle.std.specs.Prelude.{ℕ, List, [], ◌∷◌, map, ℤ, pos, negsuc, Bool, true, false, not, ◌&&◌}
+use Rattle.std.specs.Prelude.{◌||◌}
 use Rattle.std.specs.List.{filter, list_any}
 use Rattle.std.specs.Int.Signed.{lt_z}
 use Rattle.heyvl_num.specs.Value.{is_zero_num}
@@ -7,42 +9,49 @@ use Rattle.linear_rows.specs.Terms.{is_in, add_terms}
 use Rattle.linear_rows.specs.Row.{Row}
 use Rattle.linear_rows.specs.SameTerms.{same_terms}
 
--- The variable of the first term, 0 where there is none.
+-- `first_variable ts`: the variable of the first term, 0 if there is none.
 abbrev pub first_variable : List (ℕ × ℤ) → ℕ
 first_variable [] = 0
 first_variable (t ∷ ts) = t.0
 
--- The row by which its one variable isn't negative: `-x <= 0`.
+-- `is_sign_row r`: the row `r` is `-x <= 0` for a variable `x`.
 abbrev pub is_sign_row : Row → Bool
-is_sign_row r = same_terms r.terms ((first_variable r.terms, negsuc 0) ∷ []) && (is_zero_num r.rest && not r.strict)
+is_sign_row r = same_terms r.terms ((first_variable r.terms, negsuc 0) ∷ [])
+    && (is_zero_num r.rest && not r.strict)
 
--- The variables whose sign rows are among the rows.
+-- `signed_variables rows`: the variables whose sign rows are among `rows`.
 abbrev pub signed_variables : List Row → List ℕ
 signed_variables rows = map (λ r. first_variable r.terms) (filter is_sign_row rows)
 
--- The first terms less the second ones.
+-- `less ts us`: the difference `ts - us`.
 abbrev pub less : List (ℕ × ℤ) → List (ℕ × ℤ) → List (ℕ × ℤ)
 less ts us = add_terms (negsuc 0) us ts
 
--- Each coefficient is above 0, and its variable is one of these.
+-- `are_increases signed ts`: each coefficient of `ts` is above 0, and its variable is one of
+-- `signed`.
 unfoldable pub are_increases : List ℕ → List (ℕ × ℤ) → Bool
 are_increases signed [] = true
 are_increases signed (t ∷ ts) = (lt_z (pos 0) t.1 && is_in t.0 signed) && are_increases signed ts
 
--- So it is, and there are terms.
+-- `is_increase signed ts`: there are terms, and `are_increases signed ts`.
 abbrev pub is_increase : List ℕ → List (ℕ × ℤ) → Bool
 is_increase signed [] = false
 is_increase signed (t ∷ ts) = are_increases signed (t ∷ ts)
 
--- The first row implies the second, and has other terms: each coefficient that differs is greater in the first row, and is that of
--- a variable that isn't negative; the first row's constant is at least the second's; and it is strict where the second is.
+-- `dominates signed s r`: the row `s` implies the row `r` and has other terms. Each coefficient
+-- that differs is larger in `s`, and its variable is one of `signed`; the constant of `s` is at
+-- least that of `r`; and `s` is strict if `r` is. If `x` is not negative, `2*x + y + 3 <= 0`
+-- dominates `x + y + 1 <= 0`.
 abbrev pub dominates : List ℕ → Row → Row → Bool
-dominates signed s r = is_increase signed (less s.terms r.terms) && (not (lt_z s.rest r.rest) && (s.strict || not r.strict))
+dominates signed s r = is_increase signed (less s.terms r.terms)
+    && (not (lt_z s.rest r.rest) && (s.strict || not r.strict))
 
--- Another row dominates it, with the variables whose sign rows are among the rows. Sign rows themselves are never dominated.
+-- `is_dominated rows r`: another row of `rows` dominates `r`, by the sign rows among `rows`. Sign
+-- rows themselves are never dominated.
 abbrev pub is_dominated : List Row → Row → Bool
-is_dominated rows r = not (is_sign_row r) && list_any (λ s. dominates (signed_variables rows) s r) rows
+is_dominated rows r = not (is_sign_row r)
+    && list_any (λ s. dominates (signed_variables rows) s r) rows
 
--- The rows that no other one dominates, in order.
+-- `undominated rows`: the rows that no other row dominates, in order.
 abbrev pub undominated : List Row → List Row
 undominated rows = filter (λ r. not (is_dominated rows r)) rows

@@ -1,4 +1,4 @@
-//! Whether a row implies another.
+//! The test whether a row implies another.
 
 ghost use Rattle.std.specs.Prelude.{◌≡◌, ◌<◌, ◌≤◌, ◌+◌, ◌^◌, length, drop, unsigned_abs};
 ghost use Rattle.std.specs.List.{All};
@@ -9,7 +9,7 @@ ghost use Rattle.linear_dominance.specs.internal.NextLess.{IsNextLess};
 
 use linear_rows::Row;
 
-/// Whether a variable is among some.
+/// Returns whether `x` is one of `variables`.
 fn contains(variables: &[u32], x: u32) -> bool
     ensures { result ≡ is_in x variables.now }
 {
@@ -21,7 +21,7 @@ fn contains(variables: &[u32], x: u32) -> bool
     false
 }
 
-/// The next term of a difference, and the places after it.
+/// The next term of a difference, and the places after it in the left and the right list.
 #[derive(Clone, Copy)]
 struct Next {
     var: u32,
@@ -30,7 +30,7 @@ struct Next {
     right: usize,
 }
 
-/// The difference in the lower variable at the two places: the coefficient in the first list less the one in the second.
+/// Returns the term of the lower variable at the places `i` of `a` and `j` of `b`, for `a - b`.
 fn next_less(a: &[(u32, i64)], i: usize, b: &[(u32, i64)], j: usize) -> Next
     requires left_normal { IsNormal (drop i a.now) }
     requires right_normal { IsNormal (drop j b.now) }
@@ -86,7 +86,8 @@ fn next_less(a: &[(u32, i64)], i: usize, b: &[(u32, i64)], j: usize) -> Next
     }
 }
 
-/// Whether the first terms differ from the second ones, and only where a coefficient is greater whose variable is one of these.
+/// Returns whether `a - b` has terms, and each has a positive coefficient and a variable of
+/// `signed`.
 fn are_greater(signed: &[u32], a: &[(u32, i64)], b: &[(u32, i64)]) -> bool
     requires left_normal { IsNormal a.now }
     requires right_normal { IsNormal b.now }
@@ -114,7 +115,8 @@ fn are_greater(signed: &[u32], a: &[(u32, i64)], b: &[(u32, i64)]) -> bool
     differs
 }
 
-/// Whether the first row implies the second and has other terms, where these variables aren't negative.
+/// Returns whether the row `s` implies the row `r` and has other terms, if the variables `signed`
+/// are not negative.
 pub fn dominates(signed: &[u32], s: &Row, r: &Row) -> bool
     requires first { IsRow s.now }
     requires second { IsRow r.now }

@@ -2,7 +2,7 @@
 
 ghost use Rattle.linear_dominance.specs.Laws.{UndominatedRowsTellAll};
 
-/// A point that meets the rows that no other row dominates meets all of them.
+/// States that a point that satisfies the rows that no other row dominates satisfies all rows.
 pub fn undominated_rows_tell_all()
     ensures { UndominatedRowsTellAll }
 {}

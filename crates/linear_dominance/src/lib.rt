@@ -1,4 +1,4 @@
-//! Rows that other rows imply, since some variables aren't negative.
+//! Rows that other rows imply, because some variables are not negative.
 #![tactic(auto)]
 
 mod dominance;

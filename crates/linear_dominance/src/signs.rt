@@ -1,11 +1,11 @@
-//! Rows by which a variable isn't negative.
+//! Sign rows, by which a variable is not negative.
 
 ghost use Rattle.std.specs.Prelude.{◌≡◌, cond, Some, None};
 ghost use Rattle.linear_dominance.specs.DominatedRows.{first_variable, is_sign_row};
 
 use linear_rows::Row;
 
-/// The variable that isn't negative by this row, where the row is `-x <= 0`.
+/// Returns the variable `x` if `row` is `-x <= 0`.
 pub fn sign_of(row: &Row) -> Option<u32>
     ensures { result ≡ cond (is_sign_row row.now) (Some (first_variable row.now.terms)) None }
 {

@@ -1,2 +1,2 @@
--- Meant for the proofs of other crates. What is left of the rows tells what was left out.
+-- For the proofs of other crates: the rows that are left imply those that are left out.
 pub use Rattle.linear_dominance.proofs.LeftRows.{undominated_tell}

@@ -1,2 +1,2 @@
--- Meant for the proofs of other crates. No row is dominated where no variable has its sign row.
+-- For the proofs of other crates: if no variable has a sign row, no row is dominated.
 pub use Rattle.linear_dominance.proofs.Signless.{never_dominated}
