@@ -17,7 +17,6 @@ use heyvl_num::Frac;
 use interval_choice::{End, Pick, Side, taken_between};
 use std::alloc::{AllocError, Global};
 
-/// The type of a variable, Bool beyond the list.
 fn type_of(vars: &[Ty], x: u32) -> Ty
     ensures { result ≡ types_in vars.now x }
 {
@@ -27,7 +26,7 @@ fn type_of(vars: &[Ty], x: u32) -> Ty
     }
 }
 
-/// What the variable of a step takes next, after these values.
+/// Returns the choice for the variable of `step` after the values `chosen`.
 fn next_pick(step: &Step, chosen: &[(u32, Frac)], ty: Ty) -> Pick
     requires { IsDerivedStep step.now }
     ensures { IsNextPick step.now chosen.now ty result }
@@ -41,7 +40,6 @@ fn next_pick(step: &Step, chosen: &[(u32, Frac)], ty: Ty) -> Pick
     taken_between(&low, &high, ty)
 }
 
-/// The values as values of variables.
 fn numbers(alloc: Global, chosen: &[(u32, Frac)]) -> Result<Vec<(u32, Val)>, AllocError>
     ensures { IfOk result (λ v. v.items ≡ map (λ c. (c.0, Num c.1)) chosen.now) }
 {
@@ -52,7 +50,6 @@ fn numbers(alloc: Global, chosen: &[(u32, Frac)]) -> Result<Vec<(u32, Val)>, All
     Ok(out)
 }
 
-/// Where the choice breaks.
 fn broken(
     alloc: Global,
     var: u32,
@@ -89,7 +86,7 @@ fn value_as(ty: Ty, value: Frac) -> Val
     }
 }
 
-/// The values of all variables: 0 where none was chosen, and false for a Boolean.
+/// Returns a value for each variable: the chosen one, 0 if there is none, and false for a Boolean.
 fn state(alloc: Global, vars: &[Ty], chosen: &[(u32, Frac)]) -> Result<Vec<Val>, AllocError>
     requires { length vars.now < 2 ^ 32 }
     ensures { IfOk result (λ p. IsStateOf vars.now chosen.now p.items) }
@@ -102,22 +99,24 @@ fn state(alloc: Global, vars: &[Ty], chosen: &[(u32, Frac)]) -> Result<Vec<Val>,
     Ok(out)
 }
 
-/// What a greedy choice comes to.
+/// The outcome of the greedy choice.
 #[derive(Drop)]
 pub enum Choice {
     /// The greedy point.
     Point(Vec<Val>),
-    /// The variable at which the choice breaks.
+    /// The variable at which the choice breaks: its interval contains no integer.
     Break(Broken),
-    /// A number that is too great.
+    /// A number overflows.
     Great,
 }
 
-/// Chooses a value for each variable, from the last step on, where the rows stand after these steps.
+/// Chooses a value for each variable, in the reverse order of the steps, for rows that are solvable
+/// by these steps.
 pub fn greedy(alloc: Global, steps: &[Step], vars: &[Ty]) -> Result<Choice, AllocError>
     requires derived { All IsDerivedStep steps.now }
     requires few_variables { length vars.now < 2 ^ 32 }
-    ensures { IfOk result (λ e. (rows : List Row) → IsEliminated rows vars.now steps.now → IsChosen rows vars.now steps.now e) }
+    ensures { IfOk result (λ e. (rows : List Row) → IsEliminated rows vars.now steps.now
+        → IsChosen rows vars.now steps.now e) }
 {
     let mut chosen: Vec<(u32, Frac)> = Vec::new(alloc);
     let mut rest = steps;

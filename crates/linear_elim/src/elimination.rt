@@ -1,4 +1,4 @@
-//! The whole elimination, one variable after the other.
+//! The elimination of variables, one after the other.
 ghost use Rattle.std.specs.Prelude.{◌≡◌, ◌<◌, ◌+◌, ◌^◌, ◌&&◌, length, true, Some, IfOk};
 ghost use Rattle.std.specs.List.{All};
 ghost use Rattle.linear_elim.specs.internal.DerivedRows.{IsDerived};
@@ -16,8 +16,8 @@ use crate::steps::{After, Step, eliminate_one};
 use crate::undominated_rows::lack_signs;
 use std::alloc::{AllocError, Global};
 
-/// How an elimination ends: with a contradiction; with no row left, after these steps; with too many rows, after so many steps;
-/// or with a number that is too great.
+/// The outcome of an elimination: a contradiction; no row left after the given steps; more than
+/// 4,096 rows, with the number of steps and of rows; or an overflow.
 #[derive(Drop)]
 pub enum Outcome {
     Refuted(Derived),
@@ -26,7 +26,7 @@ pub enum Outcome {
     TooGreat,
 }
 
-/// An elimination: how it ends, and whether it surely ends so without dominated rows too.
+/// An elimination: its outcome, and whether it is surely the same if dominated rows are left out.
 #[derive(Drop)]
 pub struct Run {
     pub end: Outcome,
@@ -39,7 +39,8 @@ fn both(a: bool, b: bool) -> bool
     a && b
 }
 
-/// How an elimination ends after so many steps where more than 4,096 rows are left, and this first contradiction is among them.
+/// Returns the outcome after `done` steps that leave `count` rows, more than 4,096, with the first
+/// contradiction `found` among them.
 fn ended(found: Option<Derived>, done: usize, count: usize) -> Outcome
     ensures found { (c : DerivedValue) → found ≡ Some c → outcome_of result ≡ refuted c }
     ensures many { found ≡ None → outcome_of result ≡ too_many done count }
@@ -50,7 +51,7 @@ fn ended(found: Option<Derived>, done: usize, count: usize) -> Outcome
     }
 }
 
-/// Eliminates the variables in order, after the steps that are done.
+/// Eliminates the variables of `order` from the rows `now`, after `done` steps.
 pub fn eliminate_from(
     alloc: Global,
     order: &[u32],
@@ -61,7 +62,9 @@ pub fn eliminate_from(
     requires derived { All IsDerived now.rows.items }
     requires over { All (λ r. IsOver order.now r.row.terms) now.rows.items }
     requires few { done + length order.now < 2 ^ 63 }
-    ensures end { IfOk result (λ r. outcome_of r.end ≡ after_all steps.items (run keeps done order.now (gathering_of now))) }
+    ensures end { IfOk result
+        (λ r. outcome_of r.end
+        ≡ after_all steps.items (run keeps done order.now (gathering_of now))) }
     ensures same { IfOk result (λ r. r.same ≡ true → IsSameShort order.now now) }
 {
     let Gathering {

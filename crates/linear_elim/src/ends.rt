@@ -1,4 +1,4 @@
-//! The ends that the rows of a step give to its variable.
+//! The ends that the rows of a step give to the interval of its variable.
 ghost use Rattle.std.specs.Prelude.{◌≡◌, ◌↔◌, ◌&&◌, negsuc, true, not, Some, Option, MatchResult};
 ghost use Rattle.std.specs.List.{All, list_any};
 ghost use Rattle.heyvl_num.specs.Rational.{Rational};
@@ -8,7 +8,8 @@ ghost use Rattle.linear_rows.specs.Numbers.{fits as number_fits};
 ghost use Rattle.linear_rows.specs.Row.{IsRow};
 ghost use Rattle.linear_rows.specs.GreedyPoint.{chosen_value};
 ghost use Rattle.linear_elim.specs.internal.DerivedRows.{IsDerived};
-ghost use Rattle.linear_elim.specs.ChoiceNumbers.{added, sum_without as exact_sum_without, end_of, end_fits};
+ghost use Rattle.linear_elim.specs.ChoiceNumbers.{added, sum_without as exact_sum_without, end_of};
+ghost use Rattle.linear_elim.specs.ChoiceNumbers.{end_fits};
 ghost use Rattle.interval_choice.specs.Sides.{IsWithin};
 ghost use Rattle.linear_elim.specs.internal.ChoiceSteps.{narrow_end, IsTightest};
 
@@ -18,7 +19,7 @@ use interval_choice::{End, Side, fits, order, whole_of};
 use linear_rows::{Row, TooGreat, coefficient_of};
 use std::cmp::Ordering;
 
-/// The value chosen for a variable, 0 where none was.
+/// Returns the value chosen for `x`, 0 if there is none.
 pub(crate) fn value_of(chosen: &[(u32, Frac)], x: u32) -> Frac
     ensures { result ≡ chosen_value x chosen.now }
 {
@@ -30,7 +31,6 @@ pub(crate) fn value_of(chosen: &[(u32, Frac)], x: u32) -> Frac
     Frac::zero()
 }
 
-/// The sum with c times the value added.
 fn with_term(sum: &Frac, c: i64, value: &Frac) -> Option<Frac>
     ensures { result ≡ added (Some sum.now) (exact_product (whole c) value.now) }
 {
@@ -38,7 +38,7 @@ fn with_term(sum: &Frac, c: i64, value: &Frac) -> Option<Frac>
     sum.add(&product)
 }
 
-/// The sum of a row's constant and its terms but x's, each with the value chosen for its variable.
+/// Returns the sum of the row's constant and its terms except that of `x`, at the chosen values.
 fn sum_without(row: &Row, x: u32, chosen: &[(u32, Frac)]) -> Option<Frac>
     ensures { result ≡ exact_sum_without x chosen.now row.now.terms (Some (whole row.now.rest)) }
 {
@@ -52,14 +52,13 @@ fn sum_without(row: &Row, x: u32, chosen: &[(u32, Frac)]) -> Option<Frac>
     Some(sum)
 }
 
-/// -1 over c.
 fn minus_one_over(c: i64) -> Option<Frac>
     ensures { result ≡ exact_quotient (negsuc 0) c }
 {
     Frac::new(-1, i128::from(c))
 }
 
-/// Where a row ends the values of x.
+/// Returns the place of the end that a row gives to `x`.
 fn row_place(row: &Row, x: u32, chosen: &[(u32, Frac)]) -> Option<Frac>
     requires { IsRow row.now }
     ensures { result ≡ end_of x chosen.now row.now }
@@ -70,7 +69,7 @@ fn row_place(row: &Row, x: u32, chosen: &[(u32, Frac)]) -> Option<Frac>
     sum.mul(&factor)
 }
 
-/// The end that a row gives to x, None where it is too great.
+/// Returns the end that a row gives to `x`, or None if a number of it overflows.
 fn row_end(row: &Row, x: u32, chosen: &[(u32, Frac)]) -> Option<End>
     requires { IsRow row.now }
     ensures { result ≡ narrow_end x chosen.now row.now }
@@ -92,12 +91,13 @@ fn both(a: bool, b: bool) -> bool
     a && b
 }
 
-/// The end that leaves the values which both leave.
+/// Returns the end of the intersection of two intervals on one side.
 fn tighter(side: Side, a: End, b: End) -> End
     requires first { number_fits a.place ≡ true }
     requires second { number_fits b.place ≡ true }
     ensures fits { number_fits result.place ≡ true }
-    ensures values { (v : Rational) → IsWithin side result v ↔ (IsWithin side a v × IsWithin side b v) }
+    ensures values { (v : Rational) → IsWithin side result v
+        ↔ (IsWithin side a v × IsWithin side b v) }
 {
     match (order(&a.place, &b.place), side) {
         (Ordering::Equal, _) => End {
@@ -111,7 +111,8 @@ fn tighter(side: Side, a: End, b: End) -> End
     }
 }
 
-/// The end that leaves the values which each row leaves; None where there is no row.
+/// Returns the tightest end of those that the rows give to `x`: None if there are no rows, an error
+/// if a number of one of the ends overflows.
 pub(crate) fn tightest(
     side: Side,
     rows: &[Derived],
@@ -119,7 +120,8 @@ pub(crate) fn tightest(
     chosen: &[(u32, Frac)],
 ) -> Result<Option<End>, TooGreat>
     requires { All IsDerived rows.now }
-    ensures { MatchResult result (λ o. IsTightest side x chosen.now rows.now o) (λ e. list_any (λ r. not (end_fits (end_of x chosen.now r.row))) rows.now ≡ true) }
+    ensures { MatchResult result (λ o. IsTightest side x chosen.now rows.now o)
+        (λ e. list_any (λ r. not (end_fits (end_of x chosen.now r.row))) rows.now ≡ true) }
 {
     let mut found: Option<End> = None;
     for r in rows {

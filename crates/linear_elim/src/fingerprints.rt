@@ -1,18 +1,18 @@
-//! A number that rows with the same terms share, by which they are found among many.
+//! Fingerprints of lists of terms, by which equal ones are found among many.
 ghost use Rattle.std.specs.Prelude.{◌≡◌};
 ghost use Rattle.linear_elim.specs.internal.Fingerprints.{hashed, fingerprint};
 
-/// An odd number whose bits look random: 2^64 over the golden ratio.
+/// An odd number with irregular bits: 2^64 divided by the golden ratio.
 const MULTIPLIER: u64 = 0x9e37_79b9_7f4a_7c15;
 
-/// A number once another is hashed into it.
 pub(crate) fn hashed(number: u64, next: u64) -> u64
     ensures { result ≡ hashed number next }
 {
     number.wrapping_mul(MULTIPLIER).wrapping_add(next)
 }
 
-/// A number made of the variables and coefficients of a row in order. Rows with other terms rarely have the same one.
+/// Returns the fingerprint of `terms`: a hash of their variables and coefficients, in order.
+/// Different lists rarely have the same fingerprint.
 pub fn fingerprint(terms: &[(u32, i64)]) -> u64
     ensures { result ≡ fingerprint terms.now }
 {

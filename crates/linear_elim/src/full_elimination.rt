@@ -1,11 +1,12 @@
-//! The elimination of all variables of some rows.
+//! The elimination of all variables of rows, with its answer.
 
 ghost use Rattle.std.specs.Prelude.{◌≡◌, ◌<◌, ◌^◌, length, true, None, IfOk, IfSome};
 ghost use Rattle.std.specs.List.{All};
 ghost use Rattle.linear_rows.specs.Row.{IsRow};
 ghost use Rattle.linear_rows.specs.VariableOrder.{order_of};
 ghost use Rattle.linear_rows.specs.VariableTypes.{IsNumericRow};
-ghost use Rattle.linear_elim.specs.Answers.{eliminated, eliminated_by, IsShortLimited, IsAnswer, Settles};
+ghost use Rattle.linear_elim.specs.Answers.{eliminated, eliminated_by, IsShortLimited, IsAnswer};
+ghost use Rattle.linear_elim.specs.Answers.{Settles};
 ghost use Rattle.linear_elim.specs.Elimination.Rule.{drops};
 ghost use Rattle.linear_elim.specs.internal.Limits.{IsPlainAnswer};
 ghost use Rattle.linear_elim.specs.internal.Outcomes.{outcome_of};
@@ -21,7 +22,7 @@ use heylo_formula::Ty;
 use linear_rows::Row;
 use std::alloc::{AllocError, Global};
 
-/// What the plain elimination answers where this is its end.
+/// Returns the answer of the plain elimination with the outcome `end`.
 fn plain_answer(alloc: Global, rows: &[Row], vars: &[Ty], end: Outcome) -> Result<Elim, AllocError>
     requires rows { All IsRow rows.now }
     requires numeric { All (IsNumericRow vars.now) rows.now }
@@ -45,7 +46,7 @@ fn plain_answer(alloc: Global, rows: &[Row], vars: &[Ty], end: Outcome) -> Resul
     }
 }
 
-/// What the elimination without dominated rows answers in this order, or None where it meets a limit.
+/// Returns the answer of the elimination without dominated rows, or None if it reaches a limit.
 fn short_answer(
     alloc: Global,
     rows: &[Row],
@@ -74,7 +75,8 @@ fn short_answer(
     }
 }
 
-/// The answer of the elimination without dominated rows, or, where it meets a limit or is the same, the plain elimination's.
+/// Returns the answer of the elimination without dominated rows, or `plain` if that reaches a limit
+/// or is the same.
 fn unless_short(
     alloc: Global,
     rows: &[Row],
@@ -88,7 +90,8 @@ fn unless_short(
     requires few { length rows.now < 2 ^ 32 }
     requires few_variables { length vars.now < 2 ^ 32 }
     requires order { order.now ≡ order_of rows.now (length vars.now) }
-    requires same { same ≡ true → eliminated_by drops rows.now vars.now ≡ eliminated rows.now vars.now }
+    requires same { same ≡ true
+        → eliminated_by drops rows.now vars.now ≡ eliminated rows.now vars.now }
     requires plain { IsPlainAnswer rows.now vars.now plain }
     ensures { IfOk result (λ e. IsAnswer rows.now vars.now e) }
 {
@@ -101,8 +104,8 @@ fn unless_short(
     }
 }
 
-/// Eliminates the variables of rows in this order, and once more without dominated rows where a limit is met and that isn't surely
-/// the same.
+/// Eliminates the variables of `rows` in `order`. If a limit is reached, eliminates once more
+/// without dominated rows, unless that is surely the same.
 fn eliminate_in(alloc: Global, rows: &[Row], vars: &[Ty], order: &[u32]) -> Result<Elim, AllocError>
     requires rows { All IsRow rows.now }
     requires numeric { All (IsNumericRow vars.now) rows.now }
@@ -123,9 +126,10 @@ fn eliminate_in(alloc: Global, rows: &[Row], vars: &[Ty], order: &[u32]) -> Resu
     }
 }
 
-/// Eliminates the variables of rows over numbers: multipliers that show that no fractions meet them; or the greedy point; or the
-/// variable at which the greedy choice breaks; or too many rows, or a number that is too great. These two come only where the
-/// elimination without dominated rows meets a limit too. Want of memory is the one error.
+/// Eliminates the variables of rows over numbers, and returns multipliers of a contradiction, the
+/// greedy point, the variable at which the greedy choice breaks, or a limit: more than 4,096 rows,
+/// or an overflow. A limit is returned only if the elimination without dominated rows reaches a
+/// limit too.
 pub fn eliminate(alloc: Global, rows: &[Row], vars: &[Ty]) -> Result<Elim, AllocError>
     requires rows { All IsRow rows.now }
     requires numeric { All (IsNumericRow vars.now) rows.now }

@@ -1,4 +1,4 @@
-//! The rules that keep the rows few.
+//! Rows that are tidied while they are added.
 ghost use Rattle.std.specs.Prelude.{◌≡◌, ◌<◌, ◌++◌, ◌∷◌, [], IfOk, not};
 ghost use Rattle.linear_rows.specs.SameTerms.{same_terms};
 ghost use Rattle.linear_elim.specs.Steps.{is_stronger, is_contradiction, has_terms, put_row};
@@ -12,7 +12,6 @@ use linear_rows::have_same_terms;
 use std::alloc::{AllocError, Global};
 use std::collections::HashMap;
 
-/// Whether the two rows have the same terms.
 fn are_alike(a: &Derived, b: &Derived) -> bool
     ensures { result ≡ same_terms a.now.row.terms b.now.row.terms }
 {
@@ -21,7 +20,7 @@ fn are_alike(a: &Derived, b: &Derived) -> bool
     have_same_terms(&left.terms, &right.terms)
 }
 
-/// Whether the first row has a greater constant, or the same one and is strict where the other is not.
+/// Returns whether `r` has a larger constant than `k`, or the same constant and only `r` is strict.
 fn is_stronger_than(r: &Derived, k: &Derived) -> bool
     ensures { result ≡ is_stronger r.now.row k.now.row }
 {
@@ -36,7 +35,7 @@ fn is_stronger_than(r: &Derived, k: &Derived) -> bool
     false
 }
 
-/// Whether nothing meets the row since no variable is left in it.
+/// Returns whether the row has no variables and is false.
 pub(crate) fn contradicts(r: &Derived) -> bool
     ensures { result ≡ is_contradiction r.now.row }
 {
@@ -50,7 +49,7 @@ pub(crate) fn contradicts(r: &Derived) -> bool
     row.rest == 0 && row.strict
 }
 
-/// The place of the first row with the same terms, or the number of rows.
+/// Returns the index of the first row with the same terms, or the number of rows.
 fn place_of(rows: &[Derived], r: &Derived) -> usize
     ensures { IsPlace r.now rows.now result }
 {
@@ -62,7 +61,8 @@ fn place_of(rows: &[Derived], r: &Derived) -> usize
     rows.len()
 }
 
-/// The place of the first row with the same terms, or the number of rows, found by the row's fingerprint.
+/// Returns the index of the first row with the same terms, or the number of rows, by its
+/// fingerprint.
 fn place_in(places: &HashMap<u64, usize>, rows: &[Derived], r: &Derived) -> usize
     requires { ArePlaces places.now rows.now }
     ensures { IsPlace r.now rows.now result }
@@ -81,7 +81,7 @@ fn place_in(places: &HashMap<u64, usize>, rows: &[Derived], r: &Derived) -> usiz
     }
 }
 
-/// Puts a row last, and notes its place where no row before it has its fingerprint.
+/// Appends a row, and records its index if its fingerprint is new.
 fn push_row(
     places: &mut HashMap<u64, usize>,
     rows: &mut Vec<Derived>,
@@ -100,7 +100,7 @@ fn push_row(
     Ok(())
 }
 
-/// Puts a row among others: of two with equal coefficients the stronger stays, in the place of the first.
+/// Adds a row: of two rows with the same terms the stronger one stays, at the place of the first.
 fn put_row(
     places: &mut HashMap<u64, usize>,
     rows: &mut Vec<Derived>,
@@ -119,8 +119,8 @@ fn put_row(
     Ok(())
 }
 
-/// Rows that were put in, tidied, and the first contradiction among them. At the fingerprint of each row it has the place of the
-/// first row with it.
+/// Tidied rows, and the first contradiction among those that were added. `places` has the index of
+/// the first row with each fingerprint.
 #[derive(Drop)]
 pub struct Gathering {
     pub found: Option<Derived>,
@@ -128,7 +128,6 @@ pub struct Gathering {
     pub(crate) places: HashMap<u64, usize>,
 }
 
-/// Whether no variable is left in the row.
 pub(crate) fn has_no_terms(r: &Derived) -> bool
     ensures { result ≡ not (has_terms r.now.row.terms) }
 {
@@ -137,7 +136,7 @@ pub(crate) fn has_no_terms(r: &Derived) -> bool
 }
 
 impl Gathering {
-    /// Nothing yet.
+    /// Returns an empty gathering.
     pub fn new(alloc: Global) -> Gathering
         ensures found { result.found ≡ None }
         ensures rows { result.rows.items ≡ [] }
@@ -150,7 +149,7 @@ impl Gathering {
         }
     }
 
-    /// Puts a row in.
+    /// Adds a row.
     pub fn put(&mut self, r: Derived) -> Result<(), AllocError>
         requires { ArePlaces self.old.places self.old.rows.items }
         ensures found { IfOk result (λ _. self.new.found ≡ found_after r self.old.found) }

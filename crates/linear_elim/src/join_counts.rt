@@ -1,9 +1,13 @@
-//! The joins of a step, counted. Of many rows only the first contradiction is kept, and how many others there are.
+//! Counting the combinations of a step. Only the first contradiction is stored, and the number of
+//! the others.
 ghost use Rattle.std.specs.Prelude.{◌≡◌, ◌<◌, ◌∷◌, [], true, Some, IfOk, IfSome, length};
 ghost use Rattle.std.specs.List.{All};
 ghost use Rattle.linear_elim.specs.Joins.{join_fits};
 ghost use Rattle.linear_elim.specs.Steps.{fits_each, pairs_fit, joins, pairs};
-ghost use Rattle.linear_elim.specs.internal.CountedRows.{nth, terms_at, puts, all_terms, join_at, AreDifferent, IsSplit, IsNumberOf, AreNumbersOf, IsTable, IsCounted, IsSignlessCount, Puts, Counts};
+ghost use Rattle.linear_elim.specs.internal.CountedRows.{nth, terms_at, puts, all_terms, join_at};
+ghost use Rattle.linear_elim.specs.internal.CountedRows.{AreDifferent, IsSplit, IsNumberOf};
+ghost use Rattle.linear_elim.specs.internal.CountedRows.{AreNumbersOf, IsTable, IsCounted};
+ghost use Rattle.linear_elim.specs.internal.CountedRows.{IsSignlessCount, Puts, Counts};
 ghost use Rattle.linear_elim.specs.internal.Fingerprints.{fingerprint};
 ghost use Rattle.linear_elim.specs.internal.GatheredRows.{found_after, found_all};
 ghost use Rattle.linear_elim.specs.internal.SmallRows.{IsSmall};
@@ -17,8 +21,9 @@ use crate::steps::Step;
 use crate::tables::{Name, Table, lacks_signs, put};
 use std::alloc::{AllocError, Global};
 
-/// What is known of the joins of a step once they are counted: that one doesn't fit; or the first contradiction, how many
-/// rows there are with those that are kept, and whether surely none of these has the terms of `-x <= 0`; or nothing.
+/// The result of counting the combinations of a step: an overflow; or the first contradiction, the
+/// number of rows together with the kept ones, and whether surely none of these has the terms of
+/// `-x <= 0`; or nothing.
 pub(crate) enum Counted {
     Great,
     Rows(Option<Derived>, usize, bool),
@@ -32,7 +37,7 @@ struct Counting {
     table: Table,
 }
 
-/// A name with these two numbers, or None where one is too great.
+/// Returns the name with the given numbers, or None if one has more than 16 bits.
 fn name_of(i: usize, j: usize) -> Option<Name>
     ensures low { IfSome result (λ n. n.low ≡ i) }
     ensures up { IfSome result (λ n. n.up ≡ j) }
@@ -49,7 +54,7 @@ fn name_of(i: usize, j: usize) -> Option<Name>
     })
 }
 
-/// Puts in the terms of the rows that are kept. False where that can't be done.
+/// Adds the terms of the kept rows. Returns false if that fails.
 fn count_kept(
     alloc: Global,
     step: &Step,
@@ -58,7 +63,8 @@ fn count_kept(
 ) -> Result<bool, AllocError>
     requires split { IsSplit step.now }
     requires empty { IsTable (terms_at step.now kept.now) table.old [] }
-    ensures { IfOk result (λ b. b ≡ true → IsTable (terms_at step.now kept.now) table.new (puts (all_terms kept.now) [])) }
+    ensures { IfOk result (λ b. b ≡ true
+        → IsTable (terms_at step.now kept.now) table.new (puts (all_terms kept.now) [])) }
 {
     let lows: &[Derived] = &step.lows;
     for k in 0..kept.len() {
@@ -76,7 +82,8 @@ fn count_kept(
     Ok(true)
 }
 
-/// Puts in the terms of a join, which have this fingerprint and may be given. False where that can't be done.
+/// Adds the terms of a combination, with the fingerprint `number`; `terms` may give them. Returns
+/// false if that fails.
 fn put_join(
     alloc: Global,
     step: &Step,
@@ -91,7 +98,8 @@ fn put_join(
     requires low_within { i < length step.now.lows }
     requires number { number ≡ fingerprint (join_at step.now i j).row.terms }
     requires terms { IfSome terms (λ ts. ts.now ≡ (join_at step.now i j).row.terms) }
-    ensures { IfOk result (λ b. b ≡ true → Puts (terms_at step.now kept.now) table.old table.new (join_at step.now i j).row.terms) }
+    ensures { IfOk result (λ b. b ≡ true
+        → Puts (terms_at step.now kept.now) table.old table.new (join_at step.now i j).row.terms) }
 {
     let Some(name) = name_of(i, j) else {
         return Ok(false);
@@ -99,7 +107,7 @@ fn put_join(
     put(alloc, step, kept, table, name, number, terms)
 }
 
-/// Counts the join of a lower row and an upper one. Whether it fits, or None where that isn't known.
+/// Counts a combination. Returns whether it fits, or None if that is not known.
 fn count_join(
     alloc: Global,
     step: &Step,
@@ -111,9 +119,14 @@ fn count_join(
     requires split { IsSplit step.now }
     requires low_within { i < length step.now.lows }
     requires up_within { j < length step.now.ups }
-    ensures fits { IfOk result (λ o. IfSome o (λ b. b ≡ join_fits step.now.var (nth step.now.lows i) (nth step.now.ups j))) }
-    ensures found { IfOk result (λ o. o ≡ Some true → out.new.found ≡ found_after (join_at step.now i j) out.old.found) }
-    ensures table { IfOk result (λ o. o ≡ Some true → Counts (terms_at step.now kept.now) out.old.table out.new.table (join_at step.now i j ∷ [])) }
+    ensures fits { IfOk result
+        (λ o. IfSome o
+        (λ b. b ≡ join_fits step.now.var (nth step.now.lows i) (nth step.now.ups j))) }
+    ensures found { IfOk result (λ o. o ≡ Some true
+        → out.new.found ≡ found_after (join_at step.now i j) out.old.found) }
+    ensures table { IfOk result (λ o. o ≡ Some true
+        → Counts (terms_at step.now kept.now) out.old.table out.new.table
+        (join_at step.now i j ∷ [])) }
 {
     let lows: &[Derived] = &step.lows;
     let ups: &[Derived] = &step.ups;
@@ -136,8 +149,8 @@ fn count_join(
     }
 }
 
-/// Counts the join of a lower row and an upper one, which has this fingerprint where it isn't 0. Whether it fits, or None where
-/// that isn't known.
+/// Counts a combination, with the fingerprint `number` unless that is 0. Returns whether it fits,
+/// or None if that is not known.
 fn count_pair(
     alloc: Global,
     step: &Step,
@@ -151,9 +164,14 @@ fn count_pair(
     requires low_within { i < length step.now.lows }
     requires up_within { j < length step.now.ups }
     requires number { IsNumberOf number step.now i j }
-    ensures fits { IfOk result (λ o. IfSome o (λ b. b ≡ join_fits step.now.var (nth step.now.lows i) (nth step.now.ups j))) }
-    ensures found { IfOk result (λ o. o ≡ Some true → out.new.found ≡ found_after (join_at step.now i j) out.old.found) }
-    ensures table { IfOk result (λ o. o ≡ Some true → Counts (terms_at step.now kept.now) out.old.table out.new.table (join_at step.now i j ∷ [])) }
+    ensures fits { IfOk result
+        (λ o. IfSome o
+        (λ b. b ≡ join_fits step.now.var (nth step.now.lows i) (nth step.now.ups j))) }
+    ensures found { IfOk result (λ o. o ≡ Some true
+        → out.new.found ≡ found_after (join_at step.now i j) out.old.found) }
+    ensures table { IfOk result (λ o. o ≡ Some true
+        → Counts (terms_at step.now kept.now) out.old.table out.new.table
+        (join_at step.now i j ∷ [])) }
 {
     if number == 0 {
         return count_join(alloc, step, kept, i, j, out);
@@ -165,7 +183,8 @@ fn count_pair(
     }
 }
 
-/// The fingerprint of a join where all numbers are small, or 0 where it isn't known or where it isn't known that the join fits.
+/// Returns the fingerprint of a combination of rows with small numbers, or 0 if it is not known, or
+/// not known that the combination fits.
 fn number_at(step: &Step, i: usize, j: usize, small: bool) -> u64
     requires split { IsSplit step.now }
     requires low_within { i < length step.now.lows }
@@ -181,7 +200,7 @@ fn number_at(step: &Step, i: usize, j: usize, small: bool) -> u64
     join_number(step.var, &lows[i], &ups[j])
 }
 
-/// Writes the fingerprints of the joins of a lower row with each upper one, or 0 where one isn't known.
+/// Writes the fingerprints of the combinations of a lower row, 0 for those that are not known.
 fn write_numbers(
     step: &Step,
     i: usize,
@@ -202,8 +221,8 @@ fn write_numbers(
     Ok(())
 }
 
-/// Counts the joins of a lower row with each upper one, which have these fingerprints. Whether they fit, or None where that isn't
-/// known.
+/// Counts the combinations of a lower row, with the given fingerprints. Returns whether they fit,
+/// or None if that is not known.
 fn count_low(
     alloc: Global,
     step: &Step,
@@ -215,9 +234,14 @@ fn count_low(
     requires split { IsSplit step.now }
     requires low_within { i < length step.now.lows }
     requires numbers { AreNumbersOf numbers.now step.now i }
-    ensures fits { IfOk result (λ o. IfSome o (λ b. b ≡ fits_each step.now.var (nth step.now.lows i) step.now.ups)) }
-    ensures found { IfOk result (λ o. o ≡ Some true → out.new.found ≡ found_all (joins step.now.var (nth step.now.lows i) step.now.ups) out.old.found) }
-    ensures table { IfOk result (λ o. o ≡ Some true → Counts (terms_at step.now kept.now) out.old.table out.new.table (joins step.now.var (nth step.now.lows i) step.now.ups)) }
+    ensures fits { IfOk result
+        (λ o. IfSome o (λ b. b ≡ fits_each step.now.var (nth step.now.lows i) step.now.ups)) }
+    ensures found { IfOk result (λ o. o ≡ Some true
+        → out.new.found
+        ≡ found_all (joins step.now.var (nth step.now.lows i) step.now.ups) out.old.found) }
+    ensures table { IfOk result (λ o. o ≡ Some true
+        → Counts (terms_at step.now kept.now) out.old.table out.new.table
+        (joins step.now.var (nth step.now.lows i) step.now.ups)) }
 {
     for j in 0..numbers.len() {
         match count_pair(alloc, step, kept, i, j, numbers[j], out)? {
@@ -229,7 +253,7 @@ fn count_low(
     Ok(Some(true))
 }
 
-/// Counts the joins of each lower row with each upper one. Whether they fit, or None where that isn't known.
+/// Counts all combinations. Returns whether they fit, or None if that is not known.
 fn count_all(
     alloc: Global,
     step: &Step,
@@ -239,9 +263,13 @@ fn count_all(
 ) -> Result<Option<bool>, AllocError>
     requires split { IsSplit step.now }
     requires small { small ≡ true → (All IsSmall step.now.lows) × (All IsSmall step.now.ups) }
-    ensures fits { IfOk result (λ o. IfSome o (λ b. b ≡ pairs_fit step.now.var step.now.lows step.now.ups)) }
-    ensures found { IfOk result (λ o. o ≡ Some true → out.new.found ≡ found_all (pairs step.now.var step.now.lows step.now.ups) out.old.found) }
-    ensures table { IfOk result (λ o. o ≡ Some true → Counts (terms_at step.now kept.now) out.old.table out.new.table (pairs step.now.var step.now.lows step.now.ups)) }
+    ensures fits { IfOk result
+        (λ o. IfSome o (λ b. b ≡ pairs_fit step.now.var step.now.lows step.now.ups)) }
+    ensures found { IfOk result (λ o. o ≡ Some true
+        → out.new.found ≡ found_all (pairs step.now.var step.now.lows step.now.ups) out.old.found) }
+    ensures table { IfOk result (λ o. o ≡ Some true
+        → Counts (terms_at step.now kept.now) out.old.table out.new.table
+        (pairs step.now.var step.now.lows step.now.ups)) }
 {
     let lows: &[Derived] = &step.lows;
     let mut numbers: Vec<u64> = Vec::new(alloc);
@@ -256,8 +284,8 @@ fn count_all(
     Ok(Some(true))
 }
 
-/// Counts the joins of a step's lower rows with its upper ones, together with the rows that are kept. Whether a row has the terms
-/// of `-x <= 0` is asked for the variables that come later.
+/// Counts the combinations of the lower rows of `step` with its upper rows, together with the rows
+/// `kept`. Sign rows are searched for the variables `later`.
 pub(crate) fn count_rows(
     alloc: Global,
     step: &Step,
@@ -266,8 +294,10 @@ pub(crate) fn count_rows(
 ) -> Result<Counted, AllocError>
     requires split { IsSplit step.now }
     requires different { AreDifferent kept.now }
-    ensures counted { IfOk result (λ o. IsCounted step.now.var step.now.lows step.now.ups kept.now o) }
-    ensures signless { IfOk result (λ o. IsSignlessCount later.now step.now.var step.now.lows step.now.ups kept.now o) }
+    ensures counted { IfOk result
+        (λ o. IsCounted step.now.var step.now.lows step.now.ups kept.now o) }
+    ensures signless { IfOk result
+        (λ o. IsSignlessCount later.now step.now.var step.now.lows step.now.ups kept.now o) }
 {
     let lows: &[Derived] = &step.lows;
     let ups: &[Derived] = &step.ups;

@@ -1,4 +1,4 @@
-//! The fingerprint of a join where the numbers of both rows are small. Neither the join nor its terms are made.
+//! The fingerprint of a combination of rows with small numbers, computed without the terms.
 ghost use Rattle.std.specs.Prelude.{◌≡◌, ◌<◌, ◌^◌, [], pos, true, unsigned_abs};
 ghost use Rattle.std.specs.List.{All};
 ghost use Rattle.linear_rows.specs.Divisors.{common, divided_terms};
@@ -13,15 +13,15 @@ use crate::fingerprints::hashed;
 use crate::joins::Derived;
 use crate::small_joins::{greatest, next_mixed, products};
 
-/// What the terms of a sum come to: the greatest number that divides a constant and all coefficients, and the fingerprint of the
-/// terms before they are divided.
+/// A sum of terms: the greatest common divisor of a constant and all coefficients, and the
+/// fingerprint of the terms before they are divided.
 #[derive(Clone, Copy)]
 struct Sum {
     divisor: u64,
     number: u64,
 }
 
-/// A number once a term is hashed into it, unless it is 0.
+/// Returns `number` with the term `(v, c)` hashed into it, unless `c` is 0.
 pub(crate) fn with_term(number: u64, v: u32, c: i64) -> u64
     ensures { result ≡ hashed_all number (put_term v c []) }
 {
@@ -32,7 +32,7 @@ pub(crate) fn with_term(number: u64, v: u32, c: i64) -> u64
     hashed(half, c.cast_unsigned())
 }
 
-/// A number once a term is divided and hashed into it, unless it is 0.
+/// Returns `number` with the divided term hashed into it, unless `c` is 0.
 fn with_quotient(number: u64, v: u32, c: i64, divisor: u64) -> u64
     requires positive { 0 < divisor }
     requires small { divisor < 2 ^ 20 }
@@ -46,7 +46,7 @@ fn with_quotient(number: u64, v: u32, c: i64, divisor: u64) -> u64
     hashed(half, quotient.cast_unsigned())
 }
 
-/// Sums p times the first terms and q times the second, beside the constant n.
+/// Sums `p * a + q * b`, with the constant `n`.
 fn summed(p: u64, a: &[(u32, i64)], q: u64, b: &[(u32, i64)], n: u64) -> Sum
     requires p_small { p < 2 ^ 20 }
     requires q_small { q < 2 ^ 20 }
@@ -72,7 +72,7 @@ fn summed(p: u64, a: &[(u32, i64)], q: u64, b: &[(u32, i64)], n: u64) -> Sum
     Sum { divisor, number }
 }
 
-/// The fingerprint of p times the first terms and q times the second, divided.
+/// Returns the fingerprint of `p * a + q * b`, divided by `divisor`.
 fn divided_number(p: u64, a: &[(u32, i64)], q: u64, b: &[(u32, i64)], divisor: u64) -> u64
     requires p_small { p < 2 ^ 20 }
     requires q_small { q < 2 ^ 20 }
@@ -83,7 +83,8 @@ fn divided_number(p: u64, a: &[(u32, i64)], q: u64, b: &[(u32, i64)], divisor: u
     requires right_small { All (λ t. unsigned_abs t.1 < 2 ^ 20) b.now }
     requires positive { 0 < divisor }
     requires small { divisor < 2 ^ 20 }
-    ensures { result ≡ fingerprint (divided_terms divisor (mixed_terms (pos p) a.now (pos q) b.now)) }
+    ensures { result ≡ fingerprint
+        (divided_terms divisor (mixed_terms (pos p) a.now (pos q) b.now)) }
 {
     let mut number = 0;
     let mut i: usize = 0;
@@ -97,7 +98,8 @@ fn divided_number(p: u64, a: &[(u32, i64)], q: u64, b: &[(u32, i64)], divisor: u
     number
 }
 
-/// The fingerprint of a join, or 0 where it isn't known or where it isn't known that the join fits.
+/// Returns the fingerprint of a combination, or 0 if it is not known, or not known that the
+/// combination fits.
 pub(crate) fn join_number(x: u32, low: &Derived, up: &Derived) -> u64
     requires low_derived { IsDerived low.now }
     requires up_derived { IsDerived up.now }
@@ -105,7 +107,8 @@ pub(crate) fn join_number(x: u32, low: &Derived, up: &Derived) -> u64
     requires up_small { IsSmall up.now }
     requires lower { is_below_zero (coefficient x low.now.row.terms) ≡ true }
     requires upper { is_above_zero (coefficient x up.now.row.terms) ≡ true }
-    ensures { (result ≡ 0 → ⊥) → (result ≡ fingerprint (join x low.now up.now).row.terms) × (join_fits x low.now up.now ≡ true) }
+    ensures { (result ≡ 0 → ⊥) → (result ≡ fingerprint (join x low.now up.now).row.terms)
+        × (join_fits x low.now up.now ≡ true) }
 {
     let p = up.size(x);
     let q = low.size(x);

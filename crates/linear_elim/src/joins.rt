@@ -1,18 +1,21 @@
-//! Rows made of the first rows, and the join of two in which a variable vanishes.
-ghost use Rattle.std.specs.Prelude.{◌≡◌, ◌<◌, ◌^◌, ◌*◌, ◌/◌, ◌+ℤ◌, ◌*ℤ◌, ◌<ℤ◌, ◌||◌, ◌&&◌, ℤ, pos, unsigned_abs, true, is_some, IfOk, IfSome, SomeIff};
+//! Combinations of the first rows, and the combination of two rows in which a variable vanishes.
+ghost use Rattle.std.specs.Prelude.{◌≡◌, ◌<◌, ◌^◌, ◌*◌, ◌/◌, ◌+ℤ◌, ◌*ℤ◌, ◌<ℤ◌, ◌||◌, ◌&&◌, ℤ, pos};
+ghost use Rattle.std.specs.Prelude.{unsigned_abs, true, is_some, IfOk, IfSome, SomeIff};
 ghost use Rattle.linear_rows.specs.Terms.{coefficient};
 ghost use Rattle.linear_rows.specs.TermResults.{mixed_terms, are_wide};
 ghost use Rattle.linear_rows.specs.Divisors.{divisor};
 ghost use Rattle.linear_rows.specs.Row.{IsRow};
-ghost use Rattle.linear_elim.specs.Joins.{Derived as DerivedValue, is_below_zero, is_above_zero, join, join_fits, size};
+ghost use Rattle.linear_elim.specs.Joins.{Derived as DerivedValue, is_below_zero, is_above_zero};
+ghost use Rattle.linear_elim.specs.Joins.{join, join_fits, size};
 ghost use Rattle.linear_elim.specs.internal.DerivedRows.{IsDerived, derived_parts, parts_fit};
 
 use linear_rows::{Row, coefficient_of, divided, divisor_of, mixed, narrow_quotient};
 use std::alloc::{AllocError, Global};
 use std::marker::Model;
 
-/// A row that `over` times is a sum of the first rows, each as often as its share says. Shares are pairs of a row's index and
-/// its multiplier.
+/// A combination of the first rows: `row` times the denominator `over` is the sum of the first
+/// rows, each times its multiplier in `shares`. Multipliers are pairs of a row's index and a
+/// number.
 #[derive(Drop, Debug)]
 pub struct Derived {
     pub row: Row,
@@ -26,7 +29,7 @@ impl Model for Derived {
     ghost view = { λ d. record { row = d.row; shares = d.shares.items; over = d.over } };
 }
 
-/// A row before it is brought to lowest terms.
+/// A row before it is divided to lowest terms.
 #[derive(Drop)]
 struct WideRow {
     terms: Vec<(u32, i128)>,
@@ -34,7 +37,6 @@ struct WideRow {
     strict: bool,
 }
 
-/// The product of two numbers below 2^62.
 fn product(a: u64, b: u64) -> i128
     requires left_narrow { a < 2 ^ 62 }
     requires right_narrow { b < 2 ^ 62 }
@@ -46,7 +48,6 @@ fn product(a: u64, b: u64) -> i128
 }
 
 impl Derived {
-    /// The coefficient of x, without its sign.
     pub(crate) fn size(&self, x: u32) -> u64
         requires { IsDerived self.now }
         ensures value { result ≡ size x self.now }
@@ -58,7 +59,6 @@ impl Derived {
 }
 
 impl WideRow {
-    /// The greatest number that divides the constant and each coefficient.
     fn divisor(&self) -> u128
         ensures value { result ≡ divisor self.now.terms.items (unsigned_abs self.now.rest) }
         ensures positive { 0 < result }
@@ -67,18 +67,18 @@ impl WideRow {
     }
 }
 
-/// The product of the two multiples and the divisor, or None where it reaches 2^126.
+/// Returns the product of both denominators and `divisor`, or None if it is 2^126 or more.
 fn wide_over(low: &Derived, up: &Derived, divisor: u128) -> Option<u128>
     requires low_derived { IsDerived low.now }
     requires up_derived { IsDerived up.now }
-    ensures { SomeIff result (low.now.over * up.now.over * divisor < 2 ^ 126) (low.now.over * up.now.over * divisor) }
+    ensures { SomeIff result (low.now.over * up.now.over * divisor < 2 ^ 126)
+        (low.now.over * up.now.over * divisor) }
 {
     let first = product(low.over, up.over) as u128;
     let whole = first.checked_mul(divisor)?;
     if whole < 1 << 126 { Some(whole) } else { None }
 }
 
-/// p times a, both below 2^62.
 fn side(p: u64, a: i64) -> i128
     requires left_narrow { p < 2 ^ 62 }
     requires right_narrow { unsigned_abs a < 2 ^ 62 }
@@ -88,7 +88,6 @@ fn side(p: u64, a: i64) -> i128
     (p as i128) * (a as i128)
 }
 
-/// p times a and q times b.
 fn mixed_rest(p: u64, a: i64, q: u64, b: i64) -> i128
     requires p_narrow { p < 2 ^ 62 }
     requires q_narrow { q < 2 ^ 62 }
@@ -107,7 +106,6 @@ fn either(a: bool, b: bool) -> bool
     a || b
 }
 
-/// p times the terms of the first row and q times those of the second.
 fn mixed_row_terms(
     alloc: Global,
     p: u64,
@@ -121,13 +119,14 @@ fn mixed_row_terms(
     requires q_narrow { q < 2 ^ 62 }
     requires left { IsRow a.now }
     requires right { IsRow b.now }
-    ensures terms { IfOk result (λ o. IfSome o (λ ts. ts.items ≡ mixed_terms (pos p) a.now.terms (pos q) b.now.terms)) }
+    ensures terms { IfOk result
+        (λ o. IfSome o (λ ts. ts.items ≡ mixed_terms (pos p) a.now.terms (pos q) b.now.terms)) }
     ensures some { IfOk result (λ o. is_some o ≡ true) }
 {
     mixed(alloc, p as i128, &a.terms, q as i128, &b.terms)
 }
 
-/// p times the first row and q times the second.
+/// Returns the row `p * a + q * b`.
 fn mixed_row(alloc: Global, p: u64, a: &Row, q: u64, b: &Row) -> Result<Option<WideRow>, AllocError>
     requires p_positive { 0 < p }
     requires q_positive { 0 < q }
@@ -135,8 +134,10 @@ fn mixed_row(alloc: Global, p: u64, a: &Row, q: u64, b: &Row) -> Result<Option<W
     requires q_narrow { q < 2 ^ 62 }
     requires left { IsRow a.now }
     requires right { IsRow b.now }
-    ensures terms { IfOk result (λ o. IfSome o (λ w. w.terms.items ≡ mixed_terms (pos p) a.now.terms (pos q) b.now.terms)) }
-    ensures rest { IfOk result (λ o. IfSome o (λ w. w.rest ≡ (pos p *ℤ a.now.rest) +ℤ (pos q *ℤ b.now.rest))) }
+    ensures terms { IfOk result
+        (λ o. IfSome o (λ w. w.terms.items ≡ mixed_terms (pos p) a.now.terms (pos q) b.now.terms)) }
+    ensures rest { IfOk result
+        (λ o. IfSome o (λ w. w.rest ≡ (pos p *ℤ a.now.rest) +ℤ (pos q *ℤ b.now.rest))) }
     ensures strict { IfOk result (λ o. IfSome o (λ w. w.strict ≡ (a.now.strict || b.now.strict))) }
     ensures some { IfOk result (λ o. is_some o ≡ true) }
 {
@@ -150,7 +151,8 @@ fn mixed_row(alloc: Global, p: u64, a: &Row, q: u64, b: &Row) -> Result<Option<W
     }))
 }
 
-/// The shares of a join, before they are brought to lowest terms; None where a product reaches 2^126.
+/// Returns the multipliers of a combination before they are divided to lowest terms, or None if a
+/// product reaches 2^126.
 fn mixed_shares(
     alloc: Global,
     p: u64,
@@ -164,15 +166,20 @@ fn mixed_shares(
     requires q_narrow { q < 2 ^ 62 }
     requires low_derived { IsDerived low.now }
     requires up_derived { IsDerived up.now }
-    ensures shares { IfOk result (λ o. IfSome o (λ ms. ms.items ≡ mixed_terms (pos (p * up.now.over)) low.now.shares (pos (q * low.now.over)) up.now.shares)) }
-    ensures fits { IfOk result (λ o. is_some o ≡ (are_wide (pos (p * up.now.over)) low.now.shares && are_wide (pos (q * low.now.over)) up.now.shares)) }
+    ensures shares { IfOk result
+        (λ o. IfSome o
+        (λ ms. ms.items ≡ mixed_terms (pos (p * up.now.over)) low.now.shares
+        (pos (q * low.now.over)) up.now.shares)) }
+    ensures fits { IfOk result
+        (λ o. is_some o
+        ≡ (are_wide (pos (p * up.now.over)) low.now.shares
+        && are_wide (pos (q * low.now.over)) up.now.shares)) }
 {
     let left = product(p, up.over);
     let right = product(q, low.over);
     mixed(alloc, left, &low.shares, right, &up.shares)
 }
 
-/// A number below 2^62, or None.
 fn narrow_over(over: u128) -> Option<u64>
     ensures { SomeIff result (over < 2 ^ 62) over }
 {
@@ -183,7 +190,8 @@ fn narrow_over(over: u128) -> Option<u64>
     }
 }
 
-/// The row divided, with its shares in lowest terms; None where a number of it reaches 2^62.
+/// Returns the divided row, with its multipliers in lowest terms, or None if a number of it reaches
+/// 2^62.
 fn lowered(
     alloc: Global,
     wide: &WideRow,
@@ -192,8 +200,14 @@ fn lowered(
     over: u128,
 ) -> Result<Option<Derived>, AllocError>
     requires positive { 0 < divisor }
-    ensures derived { IfOk result (λ o. IfSome o (λ d. d ≡ derived_parts wide.now.terms.items wide.now.rest wide.now.strict divisor shares.now over)) }
-    ensures fits { IfOk result (λ o. is_some o ≡ parts_fit (derived_parts wide.now.terms.items wide.now.rest wide.now.strict divisor shares.now over)) }
+    ensures derived { IfOk result
+        (λ o. IfSome o
+        (λ d. d ≡ derived_parts wide.now.terms.items wide.now.rest wide.now.strict divisor
+        shares.now over)) }
+    ensures fits { IfOk result
+        (λ o. is_some o
+        ≡ parts_fit (derived_parts wide.now.terms.items wide.now.rest wide.now.strict divisor
+        shares.now over)) }
 {
     let Some(terms) = divided(alloc, &wide.terms, divisor)? else {
         return Ok(None);
@@ -216,8 +230,9 @@ fn lowered(
     Ok(Some(Derived { row, shares, over }))
 }
 
-/// The join of a row with a negative coefficient of x and one with a positive coefficient. None where a product on the way
-/// reaches 2^126, or a number of the join 2^62.
+/// Returns the combination of `low`, with a negative coefficient of `x`, and `up`, with a positive
+/// one, in which `x` vanishes; None if an intermediate product reaches 2^126, or a number of the
+/// combination reaches 2^62.
 pub fn joined(
     alloc: Global,
     low: &Derived,

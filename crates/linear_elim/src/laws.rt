@@ -2,7 +2,8 @@
 
 ghost use Rattle.linear_elim.specs.Laws as law;
 
-/// The elimination decides whether rows are solvable, in every order of their variables.
+/// States that the elimination decides whether rows are solvable, for every order of their
+/// variables.
 pub fn elimination_decides()
     ensures refuted { law.RefutedNeverSolvable }
     ensures standing { law.StandingSolvable }

@@ -1,4 +1,5 @@
-//! Exact elimination of variables from linear rows, with multipliers.
+//! Exact Fourier-Motzkin elimination of variables from linear rows, with multipliers. `AllocError`
+//! means that memory ran out.
 #![tactic(auto)]
 
 mod answers;

@@ -1,4 +1,4 @@
-//! The combination that refutes rows.
+//! The multipliers that refute rows.
 ghost use Rattle.std.specs.Prelude.{◌≡◌, None, IfOk, IfSome};
 ghost use Rattle.std.specs.List.{All};
 ghost use Rattle.linear_rows.specs.Row.{IsRow};
@@ -9,7 +9,7 @@ use crate::joins::Derived;
 use linear_rows::{Row, contradicts};
 use std::alloc::{AllocError, Global};
 
-/// The multipliers of a derived row.
+/// Returns the multipliers of `row`.
 fn multipliers_of(alloc: Global, row: &Derived) -> Result<Vec<(u32, u64)>, AllocError>
     ensures { IfOk result (λ ms. ms.items ≡ multipliers row.now) }
 {
@@ -20,7 +20,7 @@ fn multipliers_of(alloc: Global, row: &Derived) -> Result<Vec<(u32, u64)>, Alloc
     Ok(multipliers)
 }
 
-/// The multipliers of a derived row, where they combine the rows to a contradiction.
+/// Returns the multipliers of `contradiction`, if they combine `rows` to a contradiction.
 pub fn refutation(
     alloc: Global,
     rows: &[Row],
@@ -28,7 +28,8 @@ pub fn refutation(
 ) -> Result<Option<Vec<(u32, u64)>>, AllocError>
     requires { All IsRow rows.now }
     ensures some { IfOk result (λ o. IfSome o (λ ms. IsContradiction ms.items rows.now)) }
-    ensures none { IfOk result (λ o. o ≡ None → IsContradiction (multipliers contradiction.now) rows.now → ⊥) }
+    ensures none { IfOk result (λ o. o ≡ None
+        → IsContradiction (multipliers contradiction.now) rows.now → ⊥) }
 {
     let multipliers = multipliers_of(alloc, contradiction)?;
     if contradicts(rows, &multipliers) {

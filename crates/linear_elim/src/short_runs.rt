@@ -19,7 +19,8 @@ use crate::undominated_rows::without_dominated;
 use linear_rows::Row;
 use std::alloc::{AllocError, Global};
 
-/// How an elimination without dominated rows ends: with a contradiction; with no row left, after these steps; or at a limit.
+/// The outcome of an elimination without dominated rows: a contradiction; no row left after the
+/// given steps; or a limit.
 #[derive(Drop)]
 pub enum Short {
     Refuted(Derived),
@@ -27,9 +28,11 @@ pub enum Short {
     Limited,
 }
 
-/// How an elimination ends where more than 4,096 rows are left, and this first contradiction is among them.
+/// Returns the outcome if more than 4,096 rows are left, with the first contradiction `found` among
+/// them.
 fn ended(found: Option<Derived>) -> Short
-    ensures found { (c : DerivedValue) (o : Outcome) → found ≡ Some c → refuted c ≡ o → IsShort result o }
+    ensures found { (c : DerivedValue) (o : Outcome) → found ≡ Some c → refuted c ≡ o
+        → IsShort result o }
     ensures many { (o : Outcome) → found ≡ None → IsLimited o → IsShort result o }
 {
     match found {
@@ -38,7 +41,8 @@ fn ended(found: Option<Derived>) -> Short
     }
 }
 
-/// Eliminates the variables in order, after these steps. Dominated rows are left out before each step.
+/// Eliminates the variables of `order` from the rows `now`. Dominated rows are left out before each
+/// step.
 fn shorten_from(
     alloc: Global,
     order: &[u32],
@@ -47,7 +51,8 @@ fn shorten_from(
 ) -> Result<Short, AllocError>
     requires derived { All IsDerived now.rows.items }
     requires over { All (λ r. IsOver order.now r.row.terms) now.rows.items }
-    ensures { IfOk result (λ o. (n : ℕ) → IsShort o (after_all steps.items (run drops n order.now (short_gathering now)))) }
+    ensures { IfOk result (λ o. (n : ℕ)
+        → IsShort o (after_all steps.items (run drops n order.now (short_gathering now)))) }
 {
     let Gathering {
         found,
@@ -74,7 +79,7 @@ fn shorten_from(
     }
 }
 
-/// Eliminates the variables of some rows in the given order, without dominated rows.
+/// Eliminates the variables of `rows` in `order`, without dominated rows.
 pub fn short_steps(alloc: Global, rows: &[Row], order: &[u32]) -> Result<Short, AllocError>
     requires rows { All IsRow rows.now }
     requires few { length rows.now < 2 ^ 32 }

@@ -1,5 +1,6 @@
-//! The terms of a join where the numbers of both rows are small: then the join fits, and its shares aren't needed.
-ghost use Rattle.std.specs.Prelude.{◌≡◌, ◌<◌, ◌≤◌, ◌+◌, ◌^◌, ◌++◌, ◌*ℤ◌, ◌+ℤ◌, [], ℤ, pos, true, unsigned_abs, length, drop, IfOk};
+//! The terms of a combination of rows with small numbers, computed without its multipliers.
+ghost use Rattle.std.specs.Prelude.{◌≡◌, ◌<◌, ◌≤◌, ◌+◌, ◌^◌, ◌++◌, ◌*ℤ◌, ◌+ℤ◌, [], ℤ, pos, true};
+ghost use Rattle.std.specs.Prelude.{unsigned_abs, length, drop, IfOk};
 ghost use Rattle.std.specs.List.{All};
 ghost use Rattle.heyvl_num.specs.Gcd.{gcd};
 ghost use Rattle.linear_rows.specs.Divisors.{divisor, divided_terms};
@@ -12,7 +13,7 @@ ghost use Rattle.linear_elim.specs.internal.SmallRows.{IsSmall, IsNextMixed};
 use crate::joins::Derived;
 use std::alloc::AllocError;
 
-/// Whether each coefficient is below 2^20 in absolute value.
+/// Returns true only if each coefficient is below 2^20 in absolute value.
 fn are_small(terms: &[(u32, i64)]) -> bool
     ensures { result ≡ true → All (λ t. unsigned_abs t.1 < 2 ^ 20) terms.now }
 {
@@ -25,7 +26,7 @@ fn are_small(terms: &[(u32, i64)]) -> bool
     true
 }
 
-/// Whether each number of a row is below 2^20 in absolute value.
+/// Returns true only if each number of a row is below 2^20 in absolute value.
 pub(crate) fn is_small(r: &Derived) -> bool
     ensures { result ≡ true → IsSmall r.now }
 {
@@ -42,7 +43,6 @@ pub(crate) fn is_small(r: &Derived) -> bool
     are_small(&r.shares)
 }
 
-/// Whether each number of all rows is below 2^20 in absolute value.
 fn all_small(rows: &[Derived]) -> bool
     ensures { result ≡ true → All IsSmall rows.now }
 {
@@ -54,7 +54,7 @@ fn all_small(rows: &[Derived]) -> bool
     true
 }
 
-/// The greatest number that divides both.
+/// Returns the greatest common divisor of `a` and `b`.
 pub(crate) fn greatest(a: u64, b: u64) -> u64
     ensures { result ≡ gcd a b }
 {
@@ -71,7 +71,7 @@ pub(crate) fn greatest(a: u64, b: u64) -> u64
     if y == 1 { 1 } else { x }
 }
 
-/// The greatest number that divides a number and each coefficient; 1 where all are 0.
+/// Returns the greatest common divisor of `n` and all coefficients, or 1 if all of them are 0.
 fn divisor_in(terms: &[(u32, i64)], n: u64) -> u64
     ensures value { result ≡ divisor terms.now n }
     ensures positive { 0 < result }
@@ -86,7 +86,6 @@ fn divisor_in(terms: &[(u32, i64)], n: u64) -> u64
     if common == 0 { 1 } else { common }
 }
 
-/// p times a, where both are small.
 fn product(p: u64, a: i64) -> i64
     requires left_small { p < 2 ^ 20 }
     requires right_small { unsigned_abs a < 2 ^ 20 }
@@ -96,7 +95,6 @@ fn product(p: u64, a: i64) -> i64
     (p as i64) * a
 }
 
-/// p times a and q times b.
 pub(crate) fn products(p: u64, a: i64, q: u64, b: i64) -> i64
     requires p_small { p < 2 ^ 20 }
     requires q_small { q < 2 ^ 20 }
@@ -109,7 +107,6 @@ pub(crate) fn products(p: u64, a: i64, q: u64, b: i64) -> i64
     left + right
 }
 
-/// Puts a term at the end, if it isn't 0.
 fn push_term(out: &mut Vec<(u32, i64)>, v: u32, c: i64) -> Result<(), AllocError>
     ensures { IfOk result (λ _. out.new.items ≡ out.old.items ++ put_term v c []) }
 {
@@ -119,7 +116,7 @@ fn push_term(out: &mut Vec<(u32, i64)>, v: u32, c: i64) -> Result<(), AllocError
     Ok(())
 }
 
-/// The next term of a join, and the places after it.
+/// The next term of a combination, and the places after it.
 #[derive(Clone, Copy)]
 pub(crate) struct Next {
     pub(crate) var: u32,
@@ -128,7 +125,8 @@ pub(crate) struct Next {
     pub(crate) right: usize,
 }
 
-/// The term of the lower variable at the two places, from the one list, the other or both.
+/// Returns the term of the lower variable at the places `i` of `a` and `j` of `b`, for `p * a + q *
+/// b`.
 pub(crate) fn next_mixed(
     p: u64,
     a: &[(u32, i64)],
@@ -194,7 +192,7 @@ pub(crate) fn next_mixed(
     }
 }
 
-/// Writes p times the first terms and q times the second.
+/// Writes the terms of `p * a + q * b`.
 fn mix(
     p: u64,
     a: &[(u32, i64)],
@@ -223,7 +221,6 @@ fn mix(
     Ok(())
 }
 
-/// Divides each coefficient.
 fn divide(terms: &mut Vec<(u32, i64)>, divisor: u64)
     requires positive { 0 < divisor }
     requires small { divisor < 2 ^ 20 }
@@ -235,7 +232,7 @@ fn divide(terms: &mut Vec<(u32, i64)>, divisor: u64)
     }
 }
 
-/// Writes the terms of a join. False where it isn't known whether the join fits.
+/// Writes the terms of a combination. Returns true only if the combination fits.
 pub(crate) fn join_terms(
     x: u32,
     low: &Derived,
@@ -248,7 +245,8 @@ pub(crate) fn join_terms(
     requires up_small { IsSmall up.now }
     requires lower { is_below_zero (coefficient x low.now.row.terms) ≡ true }
     requires upper { is_above_zero (coefficient x up.now.row.terms) ≡ true }
-    ensures terms { IfOk result (λ b. b ≡ true → out.new.items ≡ (join x low.now up.now).row.terms) }
+    ensures terms { IfOk result (λ b. b ≡ true
+        → out.new.items ≡ (join x low.now up.now).row.terms) }
     ensures fits { IfOk result (λ b. b ≡ true → join_fits x low.now up.now ≡ true) }
 {
     let p = up.size(x);
@@ -267,7 +265,7 @@ pub(crate) fn join_terms(
     Ok(true)
 }
 
-/// Whether each number of all rows of both lists is below 2^20 in absolute value.
+/// Returns true only if each number of all rows of both lists is below 2^20 in absolute value.
 pub(crate) fn both_small(lows: &[Derived], ups: &[Derived]) -> bool
     ensures { result ≡ true → (All IsSmall lows.now) × (All IsSmall ups.now) }
 {

@@ -1,4 +1,4 @@
-//! The first rows, and the elimination as a whole.
+//! The first rows, and the plain elimination.
 ghost use Rattle.std.specs.Prelude.{◌≡◌, ◌<◌, ◌^◌, ◌∷◌, [], true, length, IfOk};
 ghost use Rattle.std.specs.List.{All};
 ghost use Rattle.linear_rows.specs.Terms.{IsOver};
@@ -14,7 +14,7 @@ use crate::joins::Derived;
 use linear_rows::Row;
 use std::alloc::{AllocError, Global};
 
-/// A first row as its own share.
+/// Returns a first row as a combination of itself.
 fn own_row(alloc: Global, index: u32, row: &Row) -> Result<Derived, AllocError>
     ensures { IfOk result (λ d. d ≡ own index row.now) }
 {
@@ -33,7 +33,7 @@ fn own_row(alloc: Global, index: u32, row: &Row) -> Result<Derived, AllocError>
     })
 }
 
-/// The first rows, gathered.
+/// Returns the first rows, tidied.
 pub(crate) fn first_rows(alloc: Global, rows: &[Row]) -> Result<Gathering, AllocError>
     requires { length rows.now < 2 ^ 32 }
     ensures found { IfOk result (λ g. g.found ≡ contradiction (start 0 rows.now)) }
@@ -47,8 +47,8 @@ pub(crate) fn first_rows(alloc: Global, rows: &[Row]) -> Result<Gathering, Alloc
     Ok(out)
 }
 
-/// Eliminates the variables of some rows in the given order: a contradiction, which comes only where the rows aren't solvable;
-/// or the steps, which come only where they are; or too many rows, or a number that is too great, as the plain elimination says.
+/// Eliminates the variables of `rows` in `order`: a contradiction, only if the rows have no
+/// solution; the steps, only if they have one; or a limit.
 pub fn contradiction_or_steps(alloc: Global, rows: &[Row], order: &[u32]) -> Result<Run, AllocError>
     requires rows { All IsRow rows.now }
     requires few { length rows.now < 2 ^ 32 }
@@ -56,7 +56,8 @@ pub fn contradiction_or_steps(alloc: Global, rows: &[Row], order: &[u32]) -> Res
     requires over { All (λ r. IsOver order.now r.terms) rows.now }
     ensures plain { IfOk result (λ r. outcome_of r.end ≡ elimination order.now rows.now) }
     ensures decided { IfOk result (λ r. Decided rows.now r.end) }
-    ensures same { IfOk result (λ r. r.same ≡ true → elimination_by drops order.now rows.now ≡ elimination order.now rows.now) }
+    ensures same { IfOk result (λ r. r.same ≡ true
+        → elimination_by drops order.now rows.now ≡ elimination order.now rows.now) }
 {
     let start = first_rows(alloc, rows)?;
     eliminate_from(alloc, order, 0, Vec::new(alloc), start)

@@ -33,8 +33,8 @@ impl Model for Step {
     ghost view = { λ s. record { var = s.var; lows = s.lows.items; ups = s.ups.items } };
 }
 
-/// Puts in the joins of a row that bounds x from below with each row that bounds it from above. False where one of them
-/// doesn't fit.
+/// Adds the combinations of `low`, which bounds `x` from below, with each of `ups`, which bound it
+/// from above. Returns false if one of them overflows.
 fn join_each(
     alloc: Global,
     x: u32,
@@ -48,8 +48,10 @@ fn join_each(
     requires lower { is_below_zero (coefficient x low.now.row.terms) ≡ true }
     requires upper { All (λ u. is_above_zero (coefficient x u.row.terms) ≡ true) ups.now }
     ensures fits { IfOk result (λ b. b ≡ fits_each x low.now ups.now) }
-    ensures found { IfOk result (λ b. b ≡ true → out.new.found ≡ found_all (joins x low.now ups.now) out.old.found) }
-    ensures rows { IfOk result (λ b. b ≡ true → out.new.rows.items ≡ rows_all (joins x low.now ups.now) out.old.rows.items) }
+    ensures found { IfOk result (λ b. b ≡ true
+        → out.new.found ≡ found_all (joins x low.now ups.now) out.old.found) }
+    ensures rows { IfOk result (λ b. b ≡ true
+        → out.new.rows.items ≡ rows_all (joins x low.now ups.now) out.old.rows.items) }
     ensures places { IfOk result (λ _. ArePlaces out.new.places out.new.rows.items) }
 {
     for up in ups {
@@ -61,8 +63,8 @@ fn join_each(
     Ok(true)
 }
 
-/// Puts in the joins of each row that bounds x from below with each that bounds it from above. False where one of them
-/// doesn't fit.
+/// Adds the combinations of each of `lows` with each of `ups`. Returns false if one of them
+/// overflows.
 fn join_all(
     alloc: Global,
     x: u32,
@@ -76,8 +78,10 @@ fn join_all(
     requires lower { All (λ l. is_below_zero (coefficient x l.row.terms) ≡ true) lows.now }
     requires upper { All (λ u. is_above_zero (coefficient x u.row.terms) ≡ true) ups.now }
     ensures fits { IfOk result (λ b. b ≡ pairs_fit x lows.now ups.now) }
-    ensures found { IfOk result (λ b. b ≡ true → out.new.found ≡ found_all (pairs x lows.now ups.now) out.old.found) }
-    ensures rows { IfOk result (λ b. b ≡ true → out.new.rows.items ≡ rows_all (pairs x lows.now ups.now) out.old.rows.items) }
+    ensures found { IfOk result (λ b. b ≡ true
+        → out.new.found ≡ found_all (pairs x lows.now ups.now) out.old.found) }
+    ensures rows { IfOk result (λ b. b ≡ true
+        → out.new.rows.items ≡ rows_all (pairs x lows.now ups.now) out.old.rows.items) }
 {
     for low in lows {
         if !join_each(alloc, x, low, ups, out)? {
@@ -87,7 +91,6 @@ fn join_all(
     Ok(true)
 }
 
-/// The coefficient of x.
 fn coefficient_in(r: &Derived, x: u32) -> i64
     requires { IsDerived r.now }
     ensures { result ≡ coefficient x r.now.row.terms }
@@ -96,7 +99,8 @@ fn coefficient_in(r: &Derived, x: u32) -> i64
     coefficient_of(&row.terms, x)
 }
 
-/// The rows that bound a variable from below and from above, and the others, gathered.
+/// The rows that bound a variable from below, those that bound it from above, and the others,
+/// tidied.
 #[derive(Drop)]
 struct Split {
     lows: Vec<Derived>,
@@ -104,7 +108,7 @@ struct Split {
     rest: Gathering,
 }
 
-/// Splits rows by the sign of their coefficient of x.
+/// Splits `rows` by the sign of the coefficient of `x`.
 fn split_by(alloc: Global, rows: Vec<Derived>, x: u32) -> Result<Split, AllocError>
     requires { All IsDerived rows.items }
     ensures lows { IfOk result (λ p. p.lows.items ≡ lowers x rows.items) }
@@ -129,21 +133,23 @@ fn split_by(alloc: Global, rows: Vec<Derived>, x: u32) -> Result<Split, AllocErr
     Ok(Split { lows, ups, rest })
 }
 
-/// What a step gives: that a join doesn't fit; the rows that bound the variable, and the rows after it; or, where these are more
-/// than 4,096, the first contradiction, how many they are, and whether surely none of them has the terms of `-x <= 0`.
+/// The result of a step: an overflow; the rows that bound the variable, and the rows after the
+/// step; or, if these are more than 4,096, the first contradiction, their number, and whether
+/// surely none of them has the terms of `-x <= 0`.
 pub enum After {
     Great,
     Few(Step, Gathering),
     Many(Option<Derived>, usize, bool),
 }
 
-/// Whether so many rows and so many others have more joins than are kept without being counted first.
+/// Returns whether the combinations are so many that they are counted before they are stored.
 fn have_many(lows: usize, ups: usize) -> bool {
     lows.saturating_mul(ups) > 32768
 }
 
-/// One step, before those of the later variables. Where there are many joins they are counted first, and are kept if there are few
-/// different ones, or if more of them may be dominated where such rows are dropped.
+/// Eliminates `x`, before the variables `later`. If there are many combinations, they are counted
+/// first. They are stored if few of them are different, or if `drops` is set and some may be
+/// dominated.
 pub fn eliminate_one(
     alloc: Global,
     rows: Vec<Derived>,

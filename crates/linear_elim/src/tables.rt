@@ -1,9 +1,10 @@
-//! A table of different lists of terms. It keeps which rows they come from, and not the terms themselves.
+//! A table of different lists of terms. It stores the rows from which they come, not the terms.
 ghost use Rattle.std.specs.Prelude.{◌≡◌, ◌<◌, ◌+◌, [], ℕ, List, ℤ, set, true, IfOk, IfSome, length};
 ghost use Rattle.std.specs.List.{All};
 ghost use Rattle.linear_elim.specs.Joins.{is_below_zero, is_above_zero, join};
 ghost use Rattle.linear_rows.specs.SameTerms.{same_terms};
-ghost use Rattle.linear_elim.specs.internal.CountedRows.{terms_at, home, print_of, IsSplit, IsTable, IsPlaceOf, Puts, Lacks};
+ghost use Rattle.linear_elim.specs.internal.CountedRows.{terms_at, home, print_of, IsSplit};
+ghost use Rattle.linear_elim.specs.internal.CountedRows.{IsTable, IsPlaceOf, Puts, Lacks};
 ghost use Rattle.linear_elim.specs.internal.DerivedRows.{IsDerived};
 ghost use Rattle.linear_elim.specs.internal.Fingerprints.{fingerprint};
 ghost use Rattle.linear_elim.specs.internal.Signless.{sign_terms};
@@ -18,16 +19,17 @@ use crate::steps::Step;
 use linear_rows::have_same_terms;
 use std::alloc::{AllocError, Global};
 
-/// The numbers of a lower row and an upper one, for the terms of their join. Where `low` is no lower row's number, `up` is that of
-/// a row that is kept, for this row's terms.
+/// The name of a list of terms: the numbers of a lower and an upper row, for their combination. If
+/// `low` is not the number of a lower row, `up` is the number of a kept row.
 #[derive(Clone, Copy)]
 pub(crate) struct Name {
     pub(crate) low: u16,
     pub(crate) up: u16,
 }
 
-/// Lists of terms, each at the place that its fingerprint gives or at the next empty one: a part of each one's fingerprint, 0 where
-/// a place is empty; its name; how many places the fingerprints are spread over; and how many places aren't empty.
+/// A hash table with open addressing. `prints` has a part of the fingerprint at each used place,
+/// and 0 at an empty one; `names` has the names. Fingerprints are spread over `places` places, and
+/// `count` places are used.
 #[derive(Drop)]
 pub(crate) struct Table {
     pub(crate) prints: Vec<u16>,
@@ -36,21 +38,21 @@ pub(crate) struct Table {
     pub(crate) count: usize,
 }
 
-/// That terms are in a table; or the empty place and the part of the fingerprint with which they may be put in; or neither.
+/// The result of a search in a table: the terms are there; or they may be put at the empty place,
+/// with the part of their fingerprint; or nothing is known.
 pub(crate) enum Place {
     Taken,
     Free(usize, u16),
     Unknown,
 }
 
-/// A part of a fingerprint, from 1 on.
 fn print_of(number: u64) -> u16
     ensures { result ≡ print_of number }
 {
     (number % 65535 + 1) as u16
 }
 
-/// The first place for terms with this fingerprint.
+/// Returns the first place to try for a fingerprint.
 #[tactic(auto, unfolding(crate::specs::internal::CountedRows::home))]
 fn home_of(places: u64, number: u64) -> usize
     ensures { result ≡ home places number }
@@ -59,7 +61,7 @@ fn home_of(places: u64, number: u64) -> usize
     (spread / (1 << 64)) as usize
 }
 
-/// The terms of a join, or None where it doesn't fit.
+/// Returns the terms of a combination, or None if it overflows.
 fn terms_of_join(
     alloc: Global,
     x: u32,
@@ -85,7 +87,7 @@ fn terms_of_join(
     Ok(Some(row.terms))
 }
 
-/// The terms that are named, or None where there are none.
+/// Returns the terms with the given name, or None if there are none.
 fn named(
     alloc: Global,
     step: &Step,
@@ -114,7 +116,8 @@ fn named(
     }
 }
 
-/// Whether two names stand for the same terms, which for the second may be given. None where that isn't known.
+/// Returns whether two names have the same terms, or None if that is not known. `terms` may give
+/// those of `b`.
 fn name_alike(
     alloc: Global,
     step: &Step,
@@ -125,7 +128,9 @@ fn name_alike(
 ) -> Result<Option<bool>, AllocError>
     requires split { IsSplit step.now }
     requires terms { IfSome terms (λ ts. ts.now ≡ terms_at step.now kept.now b) }
-    ensures { IfOk result (λ o. IfSome o (λ s. s ≡ same_terms (terms_at step.now kept.now a) (terms_at step.now kept.now b))) }
+    ensures { IfOk result (λ o.
+        IfSome o (λ s.
+        s ≡ same_terms (terms_at step.now kept.now a) (terms_at step.now kept.now b))) }
 {
     let Some(first) = named(alloc, step, kept, a)? else {
         return Ok(None);
@@ -139,7 +144,8 @@ fn name_alike(
     Ok(Some(have_same_terms(&first, &second)))
 }
 
-/// Where the named terms, which have this fingerprint and may be given, are in a table, or may be put in.
+/// Searches the terms named `name`, with the fingerprint `number`, in the table. `terms` may give
+/// them.
 fn place_of(
     alloc: Global,
     step: &Step,
@@ -152,7 +158,8 @@ fn place_of(
     requires split { IsSplit step.now }
     requires number { number ≡ fingerprint (terms_at step.now kept.now name) }
     requires terms { IfSome terms (λ ts. ts.now ≡ terms_at step.now kept.now name) }
-    ensures { IfOk result (λ p. IsPlaceOf (terms_at step.now kept.now) table.now (terms_at step.now kept.now name) p) }
+    ensures { IfOk result (λ p.
+        IsPlaceOf (terms_at step.now kept.now) table.now (terms_at step.now kept.now name) p) }
 {
     let print = print_of(number);
     let prints: &[u16] = &table.prints;
@@ -180,7 +187,7 @@ fn place_of(
 }
 
 impl Table {
-    /// An empty table with places for so many lists of terms.
+    /// Returns an empty table for `room` lists of terms.
     pub(crate) fn new(alloc: Global, room: usize) -> Result<Table, AllocError>
         ensures { IfOk result (λ t. (f : NameValue → List (ℕ × ℤ)) → IsTable f t []) }
     {
@@ -198,11 +205,12 @@ impl Table {
         })
     }
 
-    /// Fills an empty place. False where the number of places would be too great.
+    /// Fills an empty place. Returns false if the count overflows.
     fn fill(&mut self, place: usize, print: u16, name: Name) -> bool
         requires within { place < length self.old.prints.items }
         requires named { place < length self.old.names.items }
-        ensures prints { result ≡ true → self.new.prints.items ≡ set self.old.prints.items place print }
+        ensures prints { result ≡ true
+            → self.new.prints.items ≡ set self.old.prints.items place print }
         ensures names { result ≡ true → self.new.names.items ≡ set self.old.names.items place name }
         ensures places { self.new.places ≡ self.old.places }
         ensures count { result ≡ true → self.new.count ≡ self.old.count + 1 }
@@ -217,16 +225,16 @@ impl Table {
     }
 }
 
-/// The fingerprint of the terms of `-x <= 0`.
 fn sign_number(x: u32) -> u64
     ensures { result ≡ fingerprint (sign_terms x) }
 {
     with_term(0, x, -1)
 }
 
-/// Whether surely no terms with this fingerprint are in the table.
+/// Returns true only if no terms with the fingerprint `number` are in the table.
 fn lacks(table: &Table, number: u64) -> bool
-    ensures { result ≡ true → (f : NameValue → List (ℕ × ℤ)) (t : List (ℕ × ℤ)) → number ≡ fingerprint t → Lacks f table.now t }
+    ensures { result ≡ true → (f : NameValue → List (ℕ × ℤ)) (t : List (ℕ × ℤ))
+        → number ≡ fingerprint t → Lacks f table.now t }
 {
     let print = print_of(number);
     let prints: &[u16] = &table.prints;
@@ -243,9 +251,10 @@ fn lacks(table: &Table, number: u64) -> bool
     false
 }
 
-/// Whether surely the terms of `-x <= 0` are in the table for none of these variables.
+/// Returns true only if the terms of `-x <= 0` are in the table for none of `variables`.
 pub(crate) fn lacks_signs(table: &Table, variables: &[u32]) -> bool
-    ensures { result ≡ true → (f : NameValue → List (ℕ × ℤ)) → All (λ x. Lacks f table.now (sign_terms x)) variables.now }
+    ensures { result ≡ true → (f : NameValue → List (ℕ × ℤ))
+        → All (λ x. Lacks f table.now (sign_terms x)) variables.now }
 {
     for i in 0..variables.len() {
         let x = variables[i];
@@ -256,7 +265,8 @@ pub(crate) fn lacks_signs(table: &Table, variables: &[u32]) -> bool
     true
 }
 
-/// Puts in the named terms, which have this fingerprint and may be given, unless they are there. False where that isn't known.
+/// Adds the terms named `name`, with the fingerprint `number`, unless they are there. `terms` may
+/// give them. Returns false if nothing is known.
 pub(crate) fn put(
     alloc: Global,
     step: &Step,
@@ -269,7 +279,8 @@ pub(crate) fn put(
     requires split { IsSplit step.now }
     requires number { number ≡ fingerprint (terms_at step.now kept.now name) }
     requires terms { IfSome terms (λ ts. ts.now ≡ terms_at step.now kept.now name) }
-    ensures { IfOk result (λ b. b ≡ true → Puts (terms_at step.now kept.now) table.old table.new (terms_at step.now kept.now name)) }
+    ensures { IfOk result (λ b. b ≡ true
+        → Puts (terms_at step.now kept.now) table.old table.new (terms_at step.now kept.now name)) }
 {
     match place_of(alloc, step, kept, table, name, number, terms)? {
         Place::Taken => Ok(true),

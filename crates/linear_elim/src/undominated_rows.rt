@@ -1,7 +1,9 @@
-//! The rows that no other one dominates.
-ghost use Rattle.std.specs.Prelude.{◌≡◌, ◌<◌, ◌≤◌, [], map, not, cond, true, length, Some, None, IfOk, IfSome};
+//! Rows that no other row dominates.
+ghost use Rattle.std.specs.Prelude.{◌≡◌, ◌<◌, ◌≤◌, [], map, not, cond, true, length, Some, None};
+ghost use Rattle.std.specs.Prelude.{IfOk, IfSome};
 ghost use Rattle.std.specs.List.{All, list_any};
-ghost use Rattle.linear_dominance.specs.DominatedRows.{first_variable, is_sign_row, signed_variables, dominates, is_dominated};
+ghost use Rattle.linear_dominance.specs.DominatedRows.{first_variable, is_sign_row};
+ghost use Rattle.linear_dominance.specs.DominatedRows.{signed_variables, dominates, is_dominated};
 ghost use Rattle.linear_elim.specs.Steps.{bare, undominated};
 ghost use Rattle.linear_elim.specs.internal.DerivedRows.{IsDerived};
 
@@ -9,7 +11,7 @@ use crate::joins::Derived;
 use linear_dominance::{dominates, sign_of};
 use std::alloc::{AllocError, Global};
 
-/// The variable that isn't negative by this row, where the row is `-x <= 0`.
+/// Returns the variable `x` if the row is `-x <= 0`.
 fn sign_in(r: &Derived) -> Option<u32>
     ensures { result ≡ cond (is_sign_row r.now.row) (Some (first_variable r.now.row.terms)) None }
 {
@@ -17,7 +19,7 @@ fn sign_in(r: &Derived) -> Option<u32>
     sign_of(row)
 }
 
-/// The variables whose sign rows are among the rows.
+/// Returns the variables whose sign rows are among the rows.
 fn signs_among(alloc: Global, rows: &[Derived]) -> Result<Vec<u32>, AllocError>
     ensures { IfOk result (λ v. v.items ≡ signed_variables (bare rows.now)) }
 {
@@ -30,7 +32,7 @@ fn signs_among(alloc: Global, rows: &[Derived]) -> Result<Vec<u32>, AllocError>
     Ok(signed)
 }
 
-/// Whether no row is `-x <= 0` for some variable.
+/// Returns true only if no row is `-x <= 0` for some variable.
 pub(crate) fn lack_signs(rows: &[Derived]) -> bool
     ensures { result ≡ true → signed_variables (bare rows.now) ≡ [] }
 {
@@ -42,7 +44,6 @@ pub(crate) fn lack_signs(rows: &[Derived]) -> bool
     true
 }
 
-/// Whether the first row dominates the second.
 fn is_above(signed: &[u32], s: &Derived, r: &Derived) -> bool
     requires first { IsDerived s.now }
     requires second { IsDerived r.now }
@@ -53,7 +54,6 @@ fn is_above(signed: &[u32], s: &Derived, r: &Derived) -> bool
     dominates(signed, first, second)
 }
 
-/// Whether one of the rows dominates a row.
 fn is_below_one(signed: &[u32], rows: &[Derived], r: &Derived) -> bool
     requires rows { All IsDerived rows.now }
     requires row { IsDerived r.now }
@@ -67,7 +67,7 @@ fn is_below_one(signed: &[u32], rows: &[Derived], r: &Derived) -> bool
     false
 }
 
-/// Whether no row dominates a row among them.
+/// Returns whether none of `rows`, which include `r`, dominates `r`.
 fn is_left(signed: &[u32], rows: &[Derived], r: &Derived) -> bool
     requires signed { signed.now ≡ signed_variables (bare rows.now) }
     requires rows { All IsDerived rows.now }
@@ -80,7 +80,8 @@ fn is_left(signed: &[u32], rows: &[Derived], r: &Derived) -> bool
     !is_below_one(signed, rows, r)
 }
 
-/// For each row whether no other one dominates it, or None where more than 4,096 rows are left.
+/// Returns for each row whether no other row dominates it, or None if this holds for more than
+/// 4,096.
 fn left_among(
     alloc: Global,
     signed: &[u32],
@@ -88,7 +89,9 @@ fn left_among(
 ) -> Result<Option<Vec<bool>>, AllocError>
     requires signed { signed.now ≡ signed_variables (bare rows.now) }
     requires rows { All IsDerived rows.now }
-    ensures left { IfOk result (λ o. IfSome o (λ v. v.items ≡ map (λ d. not (is_dominated (bare rows.now) d.row)) rows.now)) }
+    ensures left { IfOk result
+        (λ o. IfSome o
+        (λ v. v.items ≡ map (λ d. not (is_dominated (bare rows.now) d.row)) rows.now)) }
     ensures few { IfOk result (λ o. IfSome o (λ _. length (undominated rows.now) ≤ 4096)) }
     ensures many { IfOk result (λ o. o ≡ None → 4096 < length (undominated rows.now)) }
 {
@@ -107,7 +110,6 @@ fn left_among(
     Ok(Some(left))
 }
 
-/// The rows that are left.
 fn picked(alloc: Global, rows: Vec<Derived>, left: &[bool]) -> Result<Vec<Derived>, AllocError>
     requires { left.now ≡ map (λ d. not (is_dominated (bare rows.items) d.row)) rows.items }
     ensures { IfOk result (λ v. v.items ≡ undominated rows.items) }
@@ -123,7 +125,7 @@ fn picked(alloc: Global, rows: Vec<Derived>, left: &[bool]) -> Result<Vec<Derive
     Ok(out)
 }
 
-/// The rows that no other one dominates, in order, or None where they are more than 4,096.
+/// Returns the rows that no other row dominates, in order, or None if there are more than 4,096.
 pub(crate) fn without_dominated(
     alloc: Global,
     rows: Vec<Derived>,
