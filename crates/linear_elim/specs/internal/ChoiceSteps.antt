@@ -1,5 +1,6 @@
--- What the parts of the greedy choice promise: the ends that the rows of a step give, and the value that is taken between them.
-use Rattle.std.specs.Prelude.{◌≡◌, ◌↔◌, ℕ, List, Bool, true, cond, not, Option, Some, None, IfSome, is_some}
+-- The parts of the greedy choice: the ends given by the rows of a step, and the value between them.
+use Rattle.std.specs.Prelude.{◌≡◌, ◌↔◌, ℕ, List, Bool, true, cond, not, Option, Some, None, IfSome}
+use Rattle.std.specs.Prelude.{is_some}
 use Rattle.std.specs.List.{All}
 use Rattle.heyvl_num.specs.Rational.{Rational}
 use Rattle.linear_rows.specs.Numbers.{fits}
@@ -14,12 +15,15 @@ abbrev pub bounded : Bool → Option Rational → Option End
 bounded strict None = None
 bounded strict (Some p) = cond (fits p) (Some (record { place = p; inside = not strict })) None
 
--- The end that a row gives, where it isn't too great.
+-- `narrow_end x chosen r`: the end that the row `r` gives to `x`, unless it overflows.
 abbrev pub narrow_end : ℕ → List (ℕ × Rational) → Row → Option End
 narrow_end x chosen r = bounded r.strict (end_of x chosen r)
 
--- No end is too great, and the values past this one are those past the end that each row gives.
-pub record IsTightest (side : Side) (x : ℕ) (chosen : List (ℕ × Rational)) (rows : List Derived) (o : Option End) : Type 0 where
+-- `IsTightest side x chosen rows o`: no end overflows, and the values beyond `o` are those beyond
+-- the end that each row gives.
+pub record IsTightest (side : Side) (x : ℕ) (chosen : List (ℕ × Rational)) (rows : List Derived)
+    (o : Option End) : Type 0 where
   pub each : All (λ r. is_some (narrow_end x chosen r.row) ≡ true) rows
   pub narrow : IfSome o (λ e. fits e.place ≡ true)
-  pub values : (v : Rational) → IsPast side o v ↔ All (λ r. (e : End) → narrow_end x chosen r.row ≡ Some e → IsWithin side e v) rows
+  pub values : (v : Rational) → IsPast side o v
+      ↔ All (λ r. (e : End) → narrow_end x chosen r.row ≡ Some e → IsWithin side e v) rows

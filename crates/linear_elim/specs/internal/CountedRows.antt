@@ -1,4 +1,4 @@
--- Rows that are counted and not kept: a table has a place for each different list of terms.
+-- Rows that are counted and not stored: a table has a place for each different list of terms.
 use Rattle.linear_rows.specs.Terms.{coefficient}
 use Rattle.linear_elim.specs.Elimination.{Step}
 use Rattle.linear_elim.specs.Joins.{Derived, is_below_zero, is_above_zero, join, join_fits}
@@ -15,9 +15,10 @@ use Rattle.linear_elim.specs.internal.Fingerprints.{hashed, fingerprint}
 use Rattle.linear_elim.specs.internal.GatheredRows.{found_all, rows_all}
 use Rattle.linear_elim.specs.internal.Signless.{AreSignless}
 use Rattle.std.specs.List.{All}
-use Rattle.std.specs.Prelude.{◌≡◌, ℕ, ◌+◌, ◌*◌, ◌<◌, ◌≤◌, ◌/◌, ◌%◌, ◌^◌, List, [], ◌∷◌, ◌++◌, length, get_or, map, ℤ, pos, true, false, cond, ltb, None}
+use Rattle.std.specs.Prelude.{◌≡◌, ℕ, ◌+◌, ◌*◌, ◌<◌, ◌≤◌, ◌/◌, ◌%◌, ◌^◌, List, [], ◌∷◌, ◌++◌}
+use Rattle.std.specs.Prelude.{length, get_or, map, ℤ, pos, true, false, cond, ltb, None}
 
--- A list of terms put among others, unless it is there.
+-- `put_terms t ks`: the lists `ks` with the list `t` added, unless it is there.
 unfoldable pub put_terms : List (ℕ × ℤ) → List (List (ℕ × ℤ)) → List (List (ℕ × ℤ))
 put_terms t [] = t ∷ []
 put_terms t (k ∷ ks) = cond (same_terms k t) (k ∷ ks) (k ∷ put_terms t ks)
@@ -29,12 +30,12 @@ puts (t ∷ ts) ks = puts ts (put_terms t ks)
 abbrev pub all_terms : List Derived → List (List (ℕ × ℤ))
 all_terms ds = map (λ d. d.row.terms) ds
 
--- The terms of the rows that have some.
+-- `terms_of ds`: the terms of the rows that have some.
 unfoldable pub terms_of : List Derived → List (List (ℕ × ℤ))
 terms_of [] = []
 terms_of (d ∷ ds) = cond (has_terms d.row.terms) (d.row.terms ∷ terms_of ds) (terms_of ds)
 
--- No two rows have the same terms.
+-- `AreDifferent ks`: no two rows have the same terms.
 abbrev pub AreDifferent : List Derived → Type 0
 AreDifferent ks = puts (all_terms ks) [] ≡ all_terms ks
 
@@ -44,38 +45,41 @@ no_row = record { row = record { terms = []; rest = pos 0; strict = false }; sha
 abbrev pub nth : List Derived → ℕ → Derived
 nth ds i = get_or ds i no_row
 
--- The rows of a step bound its variable from below and from above.
+-- `IsSplit s`: the rows of the step `s` bound its variable from below and from above.
 pub record IsSplit (s : Step) : Type 0 where
   pub lows_derived : All IsDerived s.lows
   pub ups_derived : All IsDerived s.ups
   pub lower : All (λ l. is_below_zero (coefficient s.var l.row.terms) ≡ true) s.lows
   pub upper : All (λ u. is_above_zero (coefficient s.var u.row.terms) ≡ true) s.ups
 
--- The join of a step's lower row and upper row with these numbers.
+-- `join_at s i j`: the combination of lower row number `i` and upper row number `j`.
 abbrev pub join_at : Step → ℕ → ℕ → Derived
 join_at s i j = join s.var (nth s.lows i) (nth s.ups j)
 
 abbrev pub fits_at : Step → ℕ → ℕ → Type 0
 fits_at s i j = join_fits s.var (nth s.lows i) (nth s.ups j) ≡ true
 
--- The terms of the join of the two rows that are named, or, where the first number is no lower row's, those of a kept row.
+-- `terms_at s ks n`: the terms named `n`: those of a combination or, if `n.low` is not the number
+-- of a lower row, those of a kept row.
 unfoldable pub terms_at : Step → List Derived → Name → List (ℕ × ℤ)
-terms_at s ks n = cond (ltb n.low (length s.lows)) (join_at s n.low n.up).row.terms (nth ks n.up).row.terms
+terms_at s ks n = cond (ltb n.low (length s.lows)) (join_at s n.low n.up).row.terms
+    (nth ks n.up).row.terms
 
--- The fingerprint of a join that fits, unless it is 0.
+-- `IsNumberOf n s i j`: `n` is 0, or the fingerprint of a combination that fits.
 abbrev pub IsNumberOf : ℕ → Step → ℕ → ℕ → Type 0
 IsNumberOf n s i j = (n ≡ 0 → ⊥) → (n ≡ fingerprint (join_at s i j).row.terms) × fits_at s i j
 
--- Such numbers for the joins of a lower row with each upper one.
+-- `AreNumbersOf numbers s i`: such numbers for the combinations of lower row number `i` with each
+-- upper row.
 pub record AreNumbersOf (numbers : List ℕ) (s : Step) (i : ℕ) : Type 0 where
   pub as_many : length numbers ≡ length s.ups
   pub each : (j : ℕ) → j < length s.ups → IsNumberOf (get_or numbers j 0) s i j
 
--- The part of a fingerprint that a place has; 0 stands for none.
+-- `print_of n`: the part of the fingerprint `n` that a table stores; 0 marks an empty place.
 abbrev pub print_of : ℕ → ℕ
 print_of n = n % 65535 + 1
 
--- The first place for terms with this fingerprint, among so many.
+-- `home places n`: the first place to try for the fingerprint `n`, among `places`.
 unfoldable pub home : ℕ → ℕ → ℕ
 home places n = hashed n 0 * places / 2 ^ 64
 
@@ -91,16 +95,20 @@ name_at names j = get_or names j no_name
 abbrev pub IsFull : List ℕ → ℕ → Type 0
 IsFull prints j = print_at prints j ≡ 0 → ⊥
 
--- Where f gives the terms that a name stands for: the terms are at their first place or after it, with no empty place between.
-pub record IsAt (f : Name → List (ℕ × ℤ)) (places : ℕ) (prints : List ℕ) (names : List Name) (t : List (ℕ × ℤ)) : Type 0 where
+-- `IsAt f places prints names t`: the terms `t` are in the table at their first place or after it,
+-- with no empty place between; `f` gives the terms of a name.
+pub record IsAt (f : Name → List (ℕ × ℤ)) (places : ℕ) (prints : List ℕ) (names : List Name)
+    (t : List (ℕ × ℤ)) : Type 0 where
   pub place : ℕ
   pub from : home places (fingerprint t) ≤ place
   pub filled : (j : ℕ) → home places (fingerprint t) ≤ j → j ≤ place → IsFull prints j
   pub print : print_at prints place ≡ print_of (fingerprint t)
   pub terms : f (name_at names place) ≡ t
 
--- The places have these lists of terms and no others, and their number.
-pub record AreAt (f : Name → List (ℕ × ℤ)) (places : ℕ) (prints : List ℕ) (names : List Name) (count : ℕ) (seen : List (List (ℕ × ℤ))) : Type 0 where
+-- `AreAt f places prints names count seen`: the table has exactly the lists `seen`, and `count` is
+-- their number.
+pub record AreAt (f : Name → List (ℕ × ℤ)) (places : ℕ) (prints : List ℕ) (names : List Name)
+    (count : ℕ) (seen : List (List (ℕ × ℤ))) : Type 0 where
   pub sound : (j : ℕ) → IsFull prints j → put_terms (f (name_at names j)) seen ≡ seen
   pub complete : All (IsAt f places prints names) seen
   pub counted : count ≡ length seen
@@ -108,25 +116,31 @@ pub record AreAt (f : Name → List (ℕ × ℤ)) (places : ℕ) (prints : List 
 abbrev pub IsTable : (Name → List (ℕ × ℤ)) → Table → List (List (ℕ × ℤ)) → Type 0
 IsTable f t seen = AreAt f t.places t.prints.items t.names.items t.count seen
 
--- The second table has what the first one has, and these terms.
+-- `Puts f old new t`: the table `new` has the lists of `old` and the terms `t`.
 abbrev pub Puts : (Name → List (ℕ × ℤ)) → Table → Table → List (ℕ × ℤ) → Type 0
-Puts f old new t = (seen : List (List (ℕ × ℤ))) → IsTable f old seen → IsTable f new (put_terms t seen)
+Puts f old new t = (seen : List (List (ℕ × ℤ))) → IsTable f old seen
+    → IsTable f new (put_terms t seen)
 
--- The table doesn't have these terms.
+-- `Lacks f table t`: the table does not have the terms `t`.
 abbrev pub Lacks : (Name → List (ℕ × ℤ)) → Table → List (ℕ × ℤ) → Type 0
-Lacks f table t = (seen : List (List (ℕ × ℤ))) → IsTable f table seen → All (λ k. same_terms k t ≡ false) seen
+Lacks f table t = (seen : List (List (ℕ × ℤ))) → IsTable f table seen
+    → All (λ k. same_terms k t ≡ false) seen
 
--- A full place whose terms are others.
+-- `IsOther f prints names t j`: place `j` is used, by terms other than `t`.
 abbrev pub IsOther : (Name → List (ℕ × ℤ)) → List ℕ → List Name → List (ℕ × ℤ) → ℕ → Type 0
-IsOther f prints names t j = IsFull prints j × (print_at prints j ≡ print_of (fingerprint t) → f (name_at names j) ≡ t → ⊥)
+IsOther f prints names t j =
+    IsFull prints j × (print_at prints j ≡ print_of (fingerprint t) → f (name_at names j) ≡ t → ⊥)
 
--- The first empty place for the terms, which are in none before it.
-pub record IsFree (f : Name → List (ℕ × ℤ)) (table : Table) (t : List (ℕ × ℤ)) (place print : ℕ) : Type 0 where
+-- `IsFree f table t place print`: `place` is the first empty place for the terms `t`, which are at
+-- none before it.
+pub record IsFree (f : Name → List (ℕ × ℤ)) (table : Table) (t : List (ℕ × ℤ)) (place print : ℕ)
+    : Type 0 where
   pub within : place < length table.prints.items
   pub named : place < length table.names.items
   pub empty : print_at table.prints.items place ≡ 0
   pub from : home table.places (fingerprint t) ≤ place
-  pub before : (j : ℕ) → home table.places (fingerprint t) ≤ j → j < place → IsOther f table.prints.items table.names.items t j
+  pub before : (j : ℕ) → home table.places (fingerprint t) ≤ j → j < place
+      → IsOther f table.prints.items table.names.items t j
   pub is_print : print ≡ print_of (fingerprint t)
 
 pub record IsTaken (f : Name → List (ℕ × ℤ)) (table : Table) (t : List (ℕ × ℤ)) : Type 0 where
@@ -139,24 +153,30 @@ IsPlaceOf f table t Taken = IsTaken f table t
 IsPlaceOf f table t (Free place print) = IsFree f table t place print
 IsPlaceOf f table t Unknown = Unit {0}
 
--- With the terms of the rows that are still to come, the table has all of these.
-pub record IsCounting (f : Name → List (ℕ × ℤ)) (table : Table) (more : List Derived) (all : List (List (ℕ × ℤ))) : Type 0 where
+-- `IsCounting f table more all`: with the terms of the rows `more`, the table has the lists `all`.
+pub record IsCounting (f : Name → List (ℕ × ℤ)) (table : Table) (more : List Derived)
+    (all : List (List (ℕ × ℤ))) : Type 0 where
   pub seen : List (List (ℕ × ℤ))
   pub is_table : IsTable f table seen
   pub whole : puts (terms_of more) seen ≡ all
 
--- The second table has what the first one has, and the terms of these rows.
+-- `Counts f old new ds`: the table `new` has the lists of `old` and the terms of the rows `ds`.
 abbrev pub Counts : (Name → List (ℕ × ℤ)) → Table → Table → List Derived → Type 0
-Counts f old new ds = (more : List Derived) (all : List (List (ℕ × ℤ))) → IsCounting f old (ds ++ more) all → IsCounting f new more all
+Counts f old new ds = (more : List Derived) (all : List (List (ℕ × ℤ)))
+    → IsCounting f old (ds ++ more) all → IsCounting f new more all
 
--- What is known of the joins: whether they fit, the first contradiction, and how many rows there are with those that are kept.
+-- `IsCounted x ls us ks c`: the result `c` of counting: whether the combinations fit, the first
+-- contradiction, and the number of rows together with the kept ones.
 abbrev pub IsCounted : ℕ → List Derived → List Derived → List Derived → Counted → Type 0
 IsCounted x ls us ks Great = pairs_fit x ls us ≡ false
-IsCounted x ls us ks (Rows found count signless) = (pairs_fit x ls us ≡ true) × (found ≡ found_all (pairs x ls us) None) × (count ≡ length (rows_all (pairs x ls us) ks))
+IsCounted x ls us ks (Rows found count signless) = (pairs_fit x ls us ≡ true)
+    × (found ≡ found_all (pairs x ls us) None) × (count ≡ length (rows_all (pairs x ls us) ks))
 IsCounted x ls us ks Uncounted = Unit {0}
 
--- Where it is said of the counted rows, none of them has the terms of a sign row of one of these variables.
-abbrev pub IsSignlessCount : List ℕ → ℕ → List Derived → List Derived → List Derived → Counted → Type 0
+-- `IsSignlessCount later x ls us ks c`: if `c` says so, no counted row has the terms of a sign row.
+abbrev pub IsSignlessCount : List ℕ → ℕ → List Derived → List Derived → List Derived → Counted
+    → Type 0
 IsSignlessCount later x ls us ks Great = Unit {0}
-IsSignlessCount later x ls us ks (Rows found count signless) = signless ≡ true → AreSignless later (rows_all (pairs x ls us) ks)
+IsSignlessCount later x ls us ks (Rows found count signless) = signless ≡ true
+    → AreSignless later (rows_all (pairs x ls us) ks)
 IsSignlessCount later x ls us ks Uncounted = Unit {0}

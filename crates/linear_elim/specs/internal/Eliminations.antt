@@ -1,4 +1,4 @@
--- What an elimination leaves for the choice of a point.
+-- The result of an elimination, for the choice of a point.
 use Rattle.heylo_formula.specs.declared.types.Ty.{Ty}
 use Rattle.linear_elim.specs.Answers.{eliminated_by}
 use Rattle.linear_elim.specs.Elimination as plain
@@ -10,7 +10,8 @@ use Rattle.linear_rows.specs.VariableOrder.{order_of}
 use Rattle.std.specs.List.{All}
 use Rattle.std.specs.Prelude.{◌≡◌, List, length}
 
--- The rows, over numbers, stand after these steps of the elimination by a rule.
+-- `IsEliminated rows vars steps`: the elimination of `rows` by a rule ends without a contradiction,
+-- after `steps`.
 pub record IsEliminated (rows : List Row) (vars : List Ty) (steps : List Step) : Type 0 where
   pub are_rows : All IsRow rows
   pub numeric : All (IsNumericRow vars) rows

@@ -1,16 +1,16 @@
--- Rows as they are gathered and the steps put before the rest, one at a time.
+-- Rows that are gathered, and steps that are collected, one at a time.
 use Rattle.linear_elim.specs.Elimination.{Step, Outcome, after_step}
 use Rattle.linear_elim.specs.Joins.{Derived}
 use Rattle.linear_elim.specs.Steps.{has_terms, put_row, is_contradiction}
 use Rattle.std.specs.Option.{option_or}
 use Rattle.std.specs.Prelude.{List, [], ◌∷◌, cond, Option, Some, None}
 
--- The steps put before those of the rest.
+-- `after_all ss o`: the outcome `o` after the steps `ss`.
 unfoldable pub after_all : List Step → Outcome → Outcome
 after_all [] o = o
 after_all (s ∷ ss) o = after_step s (after_all ss o)
 
--- What was found, and the rows, once another row is put in.
+-- `found_after r o`: the first contradiction after the row `r` is added.
 abbrev pub found_after : Derived → Option Derived → Option Derived
 found_after r o = option_or o (cond (is_contradiction r.row) (Some r) None)
 

@@ -1,13 +1,14 @@
--- What the plain elimination of the code answers.
+-- The answers of the plain elimination of the program.
 use Rattle.std.specs.Prelude.{◌≡◌, List}
 use Rattle.heylo_formula.specs.declared.types.Ty.{Ty}
 use Rattle.linear_rows.specs.Row.{Row}
 use Rattle.linear_elim.specs.Elimination.Outcome.{too_many}
 use Rattle.linear_elim.specs.Answers.{eliminated, IsTooGreat, IsAnswer}
 use Rattle.linear_elim.specs.declared.answers.Elim.{Elim}
-use Rattle.linear_elim.specs.declared.answers.Elim.TheVariants.{NoSolution, Point, Fraction, Rows, Bits}
+use Rattle.linear_elim.specs.declared.answers.Elim.TheVariants.{NoSolution, Point, Fraction, Rows}
+use Rattle.linear_elim.specs.declared.answers.Elim.TheVariants.{Bits}
 
--- What an answer says by the plain elimination alone.
+-- `IsPlainAnswer rows vars e`: `e` is an answer of the plain elimination alone.
 abbrev pub IsPlainAnswer : List Row → List Ty → Elim → Type 0
 IsPlainAnswer rows vars (NoSolution ms) = IsAnswer rows vars (NoSolution ms)
 IsPlainAnswer rows vars (Point point) = IsAnswer rows vars (Point point)

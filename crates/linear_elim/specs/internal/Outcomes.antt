@@ -1,4 +1,4 @@
--- The outcomes that the code's stand for.
+-- The outcomes of the program as those of the definitions.
 use Rattle.std.specs.Prelude.{◌≡◌, ℕ, List}
 use Rattle.linear_rows.specs.Row.{Row}
 use Rattle.linear_rows.specs.Solutions.{IsSolvable}
@@ -9,7 +9,8 @@ use Rattle.linear_elim.specs.declared.gathered_rows.Gathering.{Gathering}
 use Rattle.linear_elim.specs.declared.short_runs.Short as Short
 use Rattle.linear_elim.specs.declared.short_runs.Short.{Short}
 use Rattle.linear_elim.specs.declared.elimination.Outcome.{Outcome}
-use Rattle.linear_elim.specs.declared.elimination.Outcome.TheVariants.{Refuted, Standing, TooMany, TooGreat}
+use Rattle.linear_elim.specs.declared.elimination.Outcome.TheVariants.{Refuted, Standing, TooMany}
+use Rattle.linear_elim.specs.declared.elimination.Outcome.TheVariants.{TooGreat}
 
 abbrev pub outcome_of : Outcome → plain.Outcome
 outcome_of (Refuted c) = plain.Outcome.refuted c
@@ -20,29 +21,31 @@ outcome_of TooGreat = plain.Outcome.too_great
 abbrev pub gathering_of : Gathering → plain.Gathered
 gathering_of g = record { found = g.found; rows = g.rows.items }
 
--- What an outcome says of the first rows: they aren't solvable, or they are, or nothing.
+-- `Decided rows o`: the outcome `o` decides whether `rows` are solvable, unless it is a limit.
 abbrev pub Decided : List Row → Outcome → Type 0
 Decided rows (Refuted c) = IsSolvable rows → ⊥
 Decided rows (Standing ss) = IsSolvable rows
 Decided rows (TooMany n c) = Unit {0}
 Decided rows TooGreat = Unit {0}
 
--- Too many rows, or a number that is too great.
+-- `IsLimited o`: the outcome `o` is more than 4,096 rows, or an overflow.
 abbrev pub IsLimited : plain.Outcome → Type 0
 IsLimited (plain.Outcome.refuted c) = ⊥
 IsLimited (plain.Outcome.standing ss) = ⊥
 IsLimited (plain.Outcome.too_many n c) = Unit {0}
 IsLimited plain.Outcome.too_great = Unit {0}
 
--- Gathered rows without the dominated ones.
+-- `short_gathering g`: the gathered rows without the dominated ones.
 abbrev pub short_gathering : Gathering → plain.Gathered
 short_gathering g = record { found = g.found; rows = undominated g.rows.items }
 
--- The elimination goes on in the same way without dominated rows, however many steps came before.
+-- `IsSameShort order now`: the elimination of the rows `now` is the same without dominated rows.
 abbrev pub IsSameShort : List ℕ → Gathering → Type 0
-IsSameShort order now = (n : ℕ) → plain.run drops n order (short_gathering now) ≡ plain.run keeps n order (gathering_of now)
+IsSameShort order now = (n : ℕ)
+    → plain.run drops n order (short_gathering now) ≡ plain.run keeps n order (gathering_of now)
 
--- What a short elimination of the code says of the outcome.
+-- `IsShort s o`: the outcome `s` of the elimination without dominated rows describes the outcome
+-- `o`.
 abbrev pub IsShort : Short → plain.Outcome → Type 0
 IsShort (Short.TheVariants.Refuted c) o = plain.Outcome.refuted c ≡ o
 IsShort (Short.TheVariants.Standing ss) o = plain.Outcome.standing ss.items ≡ o

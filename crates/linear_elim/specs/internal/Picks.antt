@@ -1,4 +1,4 @@
--- What is taken between the ends of an interval.
+-- The choice between the ends of an interval.
 use Rattle.std.specs.Prelude.{◌≡◌, ℕ, List, ◌++◌, not, true, Option}
 use Rattle.std.specs.List.{All, list_any}
 use Rattle.heylo_formula.specs.declared.types.Ty.{Ty}
@@ -14,12 +14,17 @@ use Rattle.interval_choice.specs.declared.picks.Pick.{Pick}
 use Rattle.interval_choice.specs.declared.picks.Pick.TheVariants.{Great}
 use Rattle.interval_choice.specs.Picks.{between, IsPicked}
 
--- What the step's variable takes next, after these values: an end of the step is too great, or it is taken between its ends.
+-- `IsNextPick s chosen ty p`: the choice for the variable of the step `s` after the values
+-- `chosen`: an end of the step overflows, or the choice is between its ends.
 pub data IsNextPick (s : Step) (chosen : List (ℕ × Rational)) (ty : Ty) : Pick → Type 0 where
-  great_end : list_any (λ r. not (end_fits (end_of s.var chosen r.row))) (s.lows ++ s.ups) ≡ true → IsNextPick s chosen ty Great
-  between_ends : (low high : Option End) (p : Pick) → IsTightest Low s.var chosen s.lows low → IsTightest High s.var chosen s.ups high → (is_numeric ty ≡ true → (w : Rational) → IsInside (between Low low high) w → IsPicked (between Low low high) ty p) → IsNextPick s chosen ty p
+  great_end : list_any (λ r. not (end_fits (end_of s.var chosen r.row))) (s.lows ++ s.ups) ≡ true
+      → IsNextPick s chosen ty Great
+  between_ends : (low high : Option End) (p : Pick) → IsTightest Low s.var chosen s.lows low
+      → IsTightest High s.var chosen s.ups high
+      → (is_numeric ty ≡ true → (w : Rational) → IsInside (between Low low high) w
+      → IsPicked (between Low low high) ty p) → IsNextPick s chosen ty p
 
--- The rows of a step are as the code keeps them.
+-- `IsDerivedStep s`: the rows of the step `s` satisfy the invariant of the program.
 pub record IsDerivedStep (s : Step) : Type 0 where
   pub lows : All IsDerived s.lows
   pub ups : All IsDerived s.ups
