@@ -1,4 +1,4 @@
--- The shares of a contradiction combine the first rows to one.
+-- The multipliers of a contradiction combine the first rows to it.
 use Rattle.std.proofs.Common.{◌≡◌, ℕ, ◌<◌, ◌^◌, List, [], ◌∷◌, map, length, refl, sym, ap, ap₂, ◌∙◌, arith, subst, Bool, true, false, not, ◌&&◌, ◌||◌, ◌⊎◌, inl, inr}
 use Rattle.std.specs.Prelude.{ℤ, pos, negsuc, ◌+ℤ◌, ◌*ℤ◌, ◌<ℤ◌}
 use Rattle.std.specs.Int.RustNames.{unsigned_abs}

@@ -1,4 +1,4 @@
--- What the loop over the steps and the state of all variables rest on.
+-- The loop over the steps, and the state of all variables.
 use Rattle.std.proofs.Common.{◌≡◌, ℕ, ◌+◌, ◌<◌, ◌≤◌, List, [], ◌∷◌, ◌++◌, length, map, take, get_or, below_more, refl, sym, ap, ap₂, ◌∙◌, subst, arith, Bool, true, false, ◌||◌, not}
 use Rattle.std.specs.Prelude.{Option, Some}
 use Rattle.std.specs.List.{All, list_any}

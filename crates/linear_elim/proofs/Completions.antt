@@ -1,4 +1,5 @@
--- The rows before a step of an elimination that stands: which values complete to the first rows.
+-- The rows before a step of an elimination without a contradiction: which values extend to
+-- solutions of the first rows.
 use Rattle.std.proofs.Common.{◌≡◌, ℕ, List, [], ◌∷◌, ◌++◌, length, map, refl, sym, ap, ◌∙◌, subst, Bool, true, false, cond, eqb, ltb}
 use Rattle.std.specs.Prelude.{Option, Some, None}
 use Prim.Native.Nat.{suc}
@@ -18,7 +19,8 @@ use Rattle.linear_elim.proofs.RuledRows.{ruled-all}
 use Rattle.linear_elim.proofs.Solvability.{after-standing}
 use Rattle.linear_elim.proofs.Projections.{in_more, completed_after, completed_before}
 
--- The rows stand, after these steps for these variables.
+-- `Stands rule xs rows steps`: the elimination of the variables `xs` ends without a contradiction,
+-- after `steps`.
 abbrev pub Stands : Rule → List ℕ → List Derived → List Step → Type 0
 Stands rule [] rows [] = contradiction rows ≡ None
 Stands rule [] rows (s ∷ ss) = ⊥
@@ -56,7 +58,7 @@ stands_vars rule [] rows (s ∷ ss) h = absurd h
 stands_vars rule (x ∷ xs) rows [] h = absurd h
 stands_vars rule (x ∷ xs) rows (s ∷ ss) h = ap (λ y. y ∷ xs) (sym (ap (λ s. s.var) h.1)) ∙ ap (λ ys. s.var ∷ ys) (stands_vars rule xs (eliminate_one x (tidied_by rule rows)) ss h.2)
 
--- No variable comes twice.
+-- No variable occurs twice.
 abbrev pub NoneTwice : List ℕ → Type 0
 NoneTwice [] = Unit {0}
 NoneTwice (x ∷ xs) = (is_in x xs ≡ false) × NoneTwice xs
@@ -68,8 +70,8 @@ apart v x xs h k = go (eqb v x) refl
     go true e = let s : is_in x xs ≡ true = subst (λ u. is_in u xs ≡ true) (eqb-true v x e) h in absurd (cc)
     go false e = refl
 
--- The rows before the step s, after which these steps come, where the first rows are over these variables: x is the variable of
--- the step, and values for it and the later variables complete to the first rows where they do to the rows before the step.
+-- The rows before the step `s`: `x` is its variable, and values for `x` and the later variables
+-- that satisfy the rows extend to solutions of the first rows.
 pub record Reached (rule : Rule) (xs : List ℕ) (rows : List Derived) (s : Step) (after : List Step) : Type 0 where
   pub x : ℕ
   pub later : List ℕ

@@ -23,7 +23,7 @@ use Rattle.linear_elim.specs.internal.Signless.{sign_terms, AreSignless}
 use Rattle.linear_elim.proofs.Solutions.{all_map-out}
 use Rattle.linear_rows.proofs.exported.SameTerms.{same_terms-is, terms-same}
 
--- ---- Lists of terms put among others
+-- ---- Lists of terms that are added
 
 put-kept : (k t : List (ℕ × ℤ)) (seen : List (List (ℕ × ℤ))) → put_terms k seen ≡ seen → put_terms k (seen ++ t ∷ []) ≡ seen ++ t ∷ []
 unfolding put_terms
@@ -99,7 +99,7 @@ pub tidy_differ : (ds ks : List Derived) → ks ≡ rows_all ds [] → AreDiffer
 unfolding puts
 tidy_differ ds ks e = let h : all_terms ks ≡ puts (terms_of ds) [] = ap all_terms e ∙ rows_terms ds [] in subst (λ xs. puts xs [] ≡ xs) (sym h) (again-puts (terms_of ds) [] refl)
 
--- ---- What a name stands for
+-- ---- The terms of a name
 
 below_test : (i n : ℕ) → i < n → ltb i n ≡ true
 below_test i n h = grind arith
@@ -150,7 +150,6 @@ level i j e = grind arith
 not_level : (i j : ℕ) → eqb i j ≡ false → i ≡ j → ⊥
 not_level i j e h = grind arith
 
--- where the first empty place for terms is, they are nowhere
 clash : (f : Name → List (ℕ × ℤ)) (table : Table) (t : List (ℕ × ℤ)) (s p : ℕ) → IsFree f table t s p → IsAt f table.places table.prints.items table.names.items t → ⊥
 clash f table t s p h a = go (ltb a.place s) refl
   where
@@ -165,14 +164,12 @@ nowhere f table t s p h k a = go (same_terms k t) refl
     go true e = absurd (clash f table t s p h (subst (IsAt f table.places table.prints.items table.names.items) (same_terms-is k t e) a))
     go false e = refl
 
--- Where the first empty place for a fingerprint is, with no such print before it, the table lacks all terms that have it.
 pub lacks_at : (f : Name → List (ℕ × ℤ)) (table : Table) (t : List (ℕ × ℤ)) (ps : List ℕ) (ns : List Name) (s h n : ℕ) → n ≡ fingerprint t → ps ≡ table.prints.items → ns ≡ table.names.items → h ≡ home table.places n → h ≤ s → s < length ps → s < length ns → print_at ps s ≡ 0 → ((j : ℕ) → home table.places n ≤ j → j < s → IsFull ps j × (print_at ps j ≡ print_of n → ⊥)) → Lacks f table t
 lacks_at f table t ps ns s h n e p q g l w m z b =
     let i = subst (λ k. (j : ℕ) → home table.places k ≤ j → j < s → IsFull table.prints.items j × (print_at table.prints.items j ≡ print_of k → ⊥)) e (subst (λ xs. (j : ℕ) → home table.places n ≤ j → j < s → IsFull xs j × (print_at xs j ≡ print_of n → ⊥)) p b) in
     let r : IsFree f table t s (print_of (fingerprint t)) = record { within = subst (λ xs. s < length xs) p w; named = subst (λ xs. s < length xs) q m; empty = subst (λ xs. print_at xs s ≡ 0) p z; from = subst (λ k. k ≤ s) (g ∙ ap (home table.places) e) l; before = λ j u v. ((i j u v).0, λ x y. (i j u v).1 x); is_print = refl } in
     λ seen k. All-weaker (IsAt f table.places table.prints.items table.names.items) (λ k. same_terms k t ≡ false) (nowhere f table t s (print_of (fingerprint t)) r) seen k.complete
 
--- What rows lack that a table counts.
 pub rows_lack : (f : Name → List (ℕ × ℤ)) (old new : Table) (ds ks : List Derived) (xs : List ℕ) → AreDifferent ks → IsTable f old (puts (all_terms ks) []) → Counts f old new ds → All (λ x. Lacks f new (sign_terms x)) xs → AreSignless xs (rows_all ds ks)
 unfolding terms_of puts
 rows_lack f old new ds ks xs e t k l =
@@ -315,7 +312,7 @@ counted_all f old new ds ks e t k = let h = k [] (puts (terms_of ds) (puts (all_
     mapped [] = refl
     mapped (r ∷ rs) = ap suc (mapped rs)
 
--- ---- The fingerprints of a row's joins
+-- ---- The fingerprints of a row's combinations
 
 pub one_longer : (old now : List ℕ) (j n : ℕ) → now ≡ old ++ n ∷ [] → length old ≡ j → length now ≡ j + 1
 one_longer old now j n e l = ap length e ∙ simp length-append (omega (arith, l))

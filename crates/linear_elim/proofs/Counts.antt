@@ -1,4 +1,4 @@
--- How many rows and steps there are where the rows are too many.
+-- The numbers of rows and of steps if there are more than 4,096 rows.
 use Rattle.std.proofs.Common.{◌≡◌, ℕ, ◌+◌, ◌*◌, ◌<◌, ◌≤◌, ◌^◌, List, [], ◌∷◌, length, length-append, refl, sym, ap, ◌∙◌, arith, subst, Bool, true, false, cond, ltb}
 use Rattle.std.specs.Prelude.{Option, Some, None}
 use Rattle.std.proofs.lemmas.Bool.Decides.{nat_tests}

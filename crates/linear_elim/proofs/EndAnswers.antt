@@ -1,4 +1,4 @@
--- What the ends of an elimination answer.
+-- The answers for the outcomes of an elimination.
 use Rattle.std.proofs.Common.{◌≡◌, ◌∙◌, ℕ, ◌<◌, ◌^◌, List, length, sym, ap, arith, subst}
 use Rattle.std.specs.List.{All}
 use Rattle.heylo_formula.specs.State.{environment, number_of}
@@ -28,7 +28,6 @@ use Rattle.linear_elim.proofs.OrderedRows.{rows_over, order_length}
 use Rattle.linear_elim.proofs.Counts.{elimination-many}
 use Rattle.linear_elim.proofs.NarrowShares.{refuted-narrow}
 
--- A combination that is no contradiction has too great a partial sum.
 pub sum_too_great : (rule : Rule) (rows : List Row) (vars : List Ty) (c : Derived) → plain.Outcome.refuted c ≡ eliminated_by rule rows vars → (IsContradiction (multipliers c) rows → ⊥) → IsTooGreatBy rule rows vars
 sum_too_great rule rows vars c e n =
     let f = refuted-follows rule (order_of rows (length vars)) rows c (sym e) in
@@ -57,7 +56,7 @@ in_order_of rule rows vars order o e h = h ∙ ap (λ xs. elimination_by rule xs
 pub stands_after : (rule : Rule) (rows : List Row) (vars : List Ty) (ss : List Step) → All IsRow rows → All (IsNumericRow vars) rows → plain.Outcome.standing ss ≡ eliminated_by rule rows vars → IsEliminated rows vars ss
 stands_after rule rows vars ss h k e = record { are_rows = h; numeric = k; over = rows_over rows vars k; rule = rule; standing = sym e }
 
--- ---- What the greedy choice comes to
+-- ---- The result of the greedy choice
 
 pub chosen_of : (rule : Rule) (rows : List Row) (vars : List Ty) (ss ts : List Step) (p : Choice) → ss ≡ ts → All IsRow rows → All (IsNumericRow vars) rows → plain.Outcome.standing ts ≡ eliminated_by rule rows vars → ((rows : List Row) → IsEliminated rows vars ss → IsChosen rows vars ss p) → IsChosen rows vars ss p
 chosen_of rule rows vars ss ts p e h k s f = f rows (subst (IsEliminated rows vars) (sym e) (stands_after rule rows vars ts h k s))
@@ -80,7 +79,7 @@ limited_answer rows vars (Fraction b) h s = h
 limited_answer rows vars (Rows steps count) h s = (h, s)
 limited_answer rows vars Bits h s = (h, s)
 
--- ---- Where both eliminations end in the same way
+-- ---- Both eliminations with the same outcome
 
 pub same_in : (rows : List Row) (vars : List Ty) (order : List ℕ) → order ≡ order_of rows (length vars) → elimination_by drops order rows ≡ elimination_by keeps order rows → eliminated_by drops rows vars ≡ eliminated rows vars
 same_in rows vars order e h = subst (λ xs. elimination_by drops xs rows ≡ elimination_by keeps xs rows) e h

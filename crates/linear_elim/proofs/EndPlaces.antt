@@ -1,4 +1,4 @@
--- The end that a row gives is where the row is met.
+-- The end that a row gives is where the row is satisfied.
 use Rattle.std.proofs.Common.{◌≡◌, ℕ, ◌<◌, List, [], ◌∷◌, refl, sym, ap, ◌∙◌, ◌↔◌, arith, subst, Bool, true, false, cond, eqb, not}
 use Rattle.std.specs.Prelude.{ℤ, pos, negsuc, ◌+ℤ◌, ◌*ℤ◌, Option, Some, None}
 use Prim.Native.Nat.{suc, zero}
@@ -19,7 +19,7 @@ use Rattle.linear_elim.specs.Joins.{is_below_zero, is_above_zero}
 use Rattle.linear_elim.specs.ChoiceNumbers.{added, sum_without, divided_by, end_of}
 use Rattle.interval_choice.proofs.exported.Wholes.{whole-zero, whole-negative, whole-one, less_from}
 
--- The values chosen, with one for x.
+-- The chosen values, with a value for x.
 abbrev pub placed : ℕ → Rational → List (ℕ × Rational) → ℕ → Rational
 placed x v chosen u = cond (eqb u x) v (chosen_value u chosen)
 
@@ -42,7 +42,6 @@ here_step k c v a s S e = +ʳ_assoc (k *ʳ v) S a ∙ ap (λ z. (k *ʳ v) +ʳ z)
 there_step : (p c v a s S q : Rational) → q ≡ a +ʳ p → S +ʳ q ≡ (c *ʳ v) +ʳ s → (p +ʳ S) +ʳ a ≡ (c *ʳ v) +ʳ s
 there_step p c v a s S q e h = ap (λ z. z +ʳ a) (+ʳ_comm p S) ∙ +ʳ_assoc S p a ∙ ap (λ z. S +ʳ z) (+ʳ_comm p a ∙ sym e) ∙ h
 
--- the sum of all terms is that of the others, and x's own
 pub sum_split : (x : ℕ) (v : Rational) (chosen : List (ℕ × Rational)) (ts : List (ℕ × ℤ)) (a s : Rational) → sum_without x chosen ts (Some a) ≡ Some s → sum_of (placed x v chosen) ts +ʳ a ≡ (whole (coefficient x ts) *ʳ v) +ʳ s
 unfolding sum_without sum_of coefficient
 sum_split x v chosen [] a s e = let h : a ≡ s = cc in ap (λ z. zeroʳ +ʳ z) h ∙ ap (λ z. z +ʳ s) (sym (zero-*ʳ v) ∙ ap (λ z. z *ʳ v) (sym whole-zero))
@@ -88,7 +87,6 @@ minus_one s = ap (λ z. z *ʳ s) (whole-negative 0) ∙ negʳ-*ʳ (whole (pos 1)
 zero_minus : (s : Rational) → zeroʳ -ʳ s ≡ negʳ s
 zero_minus s = -ʳ-is zeroʳ s ∙ zero-+ʳ (negʳ s)
 
--- where n times p is the negated sum, n times v and the sum are at most 0 where v is at most p
 pub record Sided (z v p : Rational) : Type 0 where
   pub under : (z ≤ʳ zeroʳ) ↔ (v ≤ʳ p)
   pub over : (zeroʳ ≤ʳ z) ↔ (p ≤ʳ v)
@@ -105,7 +103,6 @@ upper_side n v s p h e = record {
   );
 }
 
--- the other way round for a negative coefficient
 lower_side : (n : ℕ) (v s p : Rational) → 0 < n → whole (pos n) *ʳ p ≡ s → Sided (negʳ (whole (pos n) *ʳ v) +ʳ s) p v
 lower_side n v s p h e = record {
   under = (
@@ -129,7 +126,7 @@ pub low_by_side : (strict : Bool) (z v p : Rational) → Sided z p v → IsBelow
 low_by_side false z v p h = h.under
 low_by_side true z v p h = (λ k. less_from (λ l. <ʳ-not z zeroʳ k (h.over.1 l)), λ k. less_from (λ l. <ʳ-not p v k (h.over.0 l)))
 
--- the parts of an end
+-- The parts of an end.
 pub record Parts (x : ℕ) (chosen : List (ℕ × Rational)) (r : Row) (p : Rational) : Type 0 where
   pub sum : Rational
   pub summed : sum_without x chosen r.terms (Some (whole r.rest)) ≡ Some sum

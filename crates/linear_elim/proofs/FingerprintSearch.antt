@@ -1,4 +1,4 @@
--- How rows are found by their fingerprints.
+-- The search for rows by their fingerprints.
 use Rattle.std.proofs.Common.{◌≡◌, ℕ, ◌+◌, ◌<◌, ◌≤◌, List, [], ◌∷◌, ◌++◌, length, get_or, drop, refl, sym, ap, subst, ◌∙◌, arith, Bool, true, false, cond}
 use Rattle.std.proofs.Math.ListN.{set}
 use Rattle.std.specs.Prelude.{ℤ, nat_eq, Option, Some, None, is_some}
@@ -44,7 +44,7 @@ none_with q (k ∷ ks) d e j l = go (nat_eq (fingerprint k.row.terms) q) refl (f
     go false f None h g zero l = f
     go false f None h g (suc j) l = h refl j (omega (arith, l))
 
--- The row at the place is there, and none before it has the fingerprint.
+-- The row is at the place, and no row before it has the fingerprint.
 record IsFirst (q : ℕ) (ks : List Derived) (d : Derived) (i : ℕ) : Type 0 where
   there : i < length ks
   before : (j : ℕ) → j < i → nat_eq (fingerprint (get_or ks j d).row.terms) q ≡ false
@@ -79,7 +79,7 @@ place_found r ks i e s =
     let t : i < length ks = p.there in
     record { within = omega (arith, t); before = λ j l. apart _ _ (p.before j l); here = λ l. s }
 
--- ---- Once a row is put in
+-- ---- After a row is added
 
 first_new : (q : ℕ) (ks : List Derived) (r : Derived) → (nat_eq (fingerprint r.row.terms) q ≡ true → first_with q ks ≡ None) → first_with q (ks ++ r ∷ []) ≡ cond (nat_eq (fingerprint r.row.terms) q) (Some (length ks)) (first_with q ks)
 unfolding first_with
@@ -138,14 +138,11 @@ none_there : (o : Option ℕ) → is_some o ≡ false → o ≡ None
 none_there None e = refl
 none_there (Some i) e = absurd (cc)
 
--- The place of a row with a new fingerprint is noted.
 pub noted : {S : Type 0} (m n : HashMap ℕ ℕ S) (ks now : List Derived) (r : Derived) (f : ℕ) → f ≡ fingerprint r.row.terms → ArePlaces m ks → is_some (get nat_eq m f) ≡ false → Updates nat_eq m n f (Some (length ks)) → now ≡ ks ++ r ∷ [] → ArePlaces n now
 noted m n ks now r f e p g u h = subst (ArePlaces n) (sym h) (λ q. u.0 q ∙ ap (λ o. cond (nat_eq f q) (Some (length ks)) o) (p q) ∙ ap (λ k. cond (nat_eq k q) (Some (length ks)) (first_with q ks)) e ∙ sym (first_new q ks r (none_at q (fingerprint r.row.terms) ks (ap (λ k. first_with k ks) (sym e) ∙ sym (p f) ∙ none_there (get nat_eq m f) g))))
 
--- The places stay where a row has a fingerprint that another has.
 pub kept : {S : Type 0} (m : HashMap ℕ ℕ S) (ks now : List Derived) (r : Derived) (f : ℕ) → f ≡ fingerprint r.row.terms → ArePlaces m ks → is_some (get nat_eq m f) ≡ true → now ≡ ks ++ r ∷ [] → ArePlaces m now
 kept m ks now r f e p g h = subst (ArePlaces m) (sym h) (λ q. p q ∙ sym (first_old q ks r (some_at q (fingerprint r.row.terms) ks (ap (λ k. is_some (first_with k ks)) (sym e) ∙ ap is_some (sym (p f)) ∙ g))))
 
--- The places stay where a row takes the place of one with the same terms.
 pub replaced : {S : Type 0} (m : HashMap ℕ ℕ S) (ks : List Derived) (r : Derived) (i : ℕ) → IsPlace r ks i → (i ≡ length ks → ⊥) → ArePlaces m ks → ArePlaces m (set ks i r)
 replaced m ks r i p n h = let l = strictly i (length ks) p.within n in λ q. h q ∙ sym (first_set q ks i r r l (ap fingerprint (same_terms-is _ _ (p.here l))))

@@ -1,4 +1,5 @@
--- The greedy choice along the steps of an elimination that stands, from the last step on.
+-- The greedy choice along the steps of an elimination without a contradiction, from the last step
+-- on.
 use Rattle.std.proofs.Common.{◌≡◌, ℕ, ◌+◌, ◌<◌, List, [], ◌∷◌, ◌++◌, length, get_or, reverse, refl, sym, ap, ap₂, ◌∙◌, subst, arith, Bool, true, false, cond, eqb, ltb, ◌||◌}
 use Rattle.std.specs.Prelude.{ℤ, Option, Some, IfSome}
 use Rattle.std.specs.List.{All, list_any, fold}
@@ -65,7 +66,6 @@ in_put rows x v (y ∷ ys) = go (ltb (occurrences x rows) (occurrences y rows)) 
     go true h = refl
     go false h = ap (λ b. eqb v y || b) h ∙ swap (eqb v y) (eqb v x) (is_in v ys)
 
--- each variable of an order is below the number, and occurs_in_row in a row
 pub order_below : (rows : List Row) (n v : ℕ) → is_in v (order_of rows n) ≡ true → v < n
 unfolding order_of
 order_below rows zero v e = absurd (cc)
@@ -140,7 +140,6 @@ order_none_twice rows (suc n) = go (order_none_twice rows n) (ltb 0 (occurrences
     go ih true = none_twice_put rows n (order_of rows n) new ih
     go ih false = ih
 
--- a variable that occurs_in_row in rows over numbers has a type of numbers
 occurs_numeric : (vars : List Ty) (v : ℕ) (ts : List (ℕ × ℤ)) → All (λ t. is_numeric (types_in vars t.0) ≡ true) ts → list_any (λ t. eqb t.0 v) ts ≡ true → is_numeric (types_in vars v) ≡ true
 occurs_numeric vars v [] h e = absurd (cc)
 occurs_numeric vars v (t ∷ ts) h e = go (eqb t.0 v) refl e (occurs_numeric vars v ts (All-tail (λ t. is_numeric (types_in vars t.0) ≡ true) t ts h))
@@ -178,7 +177,7 @@ then_breaks rows vars xs zs cs ds x i (takes y ys _ j u g a b c) h k = takes y (
 
 -- ---- Along the steps
 
--- The values chosen after the choice of the last steps; the others are to come.
+-- The values chosen after the last steps; the others are still to be chosen.
 pub record IsSofar (rows : List Row) (vars : List Ty) (steps rest : List Step) (cs : List (ℕ × Rational)) : Type 0 where
   pub after : List Step
   pub splits : steps ≡ rest ++ after
@@ -300,14 +299,12 @@ module _ (rows : List Row) (vars : List Ty) (steps : List Step) (h : IsEliminate
       both_ends : lo ≡ Some low → hi ≡ Some high → between Low lo hi ≡ record { low = Some low; high = Some high }
       both_ends e g = ap₂ (between Low) e g
 
-  -- the two ends are below the bound
   pub narrow_here : (low high : End) → IsNextPick s cs (types_in vars s.var) (Breaks low high) → (fits low.place ≡ true) × (fits high.place ≡ true)
   narrow_here low high (between_ends lo hi _ l u k) = let p = picked_here lo hi (Breaks low high) l u k in (of_some lo low p.1 l.narrow, of_some hi high p.2 u.narrow)
     where
       of_some : (o : Option End) (e : End) → o ≡ Some e → IfSome o (λ d. fits d.place ≡ true) → fits e.place ≡ true
       of_some o e q h = subst (λ x. IfSome x (λ d. fits d.place ≡ true)) q h
 
-  -- some value lies between the two ends
   pub ordered_here : (low high : End) → IsNextPick s cs (types_in vars s.var) (Breaks low high) → low.place ≤ʳ high.place
   ordered_here low high (between_ends lo hi _ l u k) =
       let p = picked_here lo hi (Breaks low high) l u k in
@@ -336,7 +333,6 @@ module _ (rows : List Row) (vars : List Ty) (steps : List Step) (h : IsEliminate
   pub point_meets : (point : List Val) → IsStateOf vars cs point → MeetsAll point rows
   point_meets point p = All-both (λ r. IsOver (order_of rows (length vars)) r.terms) (MeetsAt f.met.at_values) (MeetsAt (λ x. number_of (environment point x))) (λ r o m. meets_same f.met.at_values (λ x. number_of (environment point x)) r (All-weaker (λ t. is_in t.0 (order_of rows (length vars)) ≡ true) (λ t. f.met.at_values t.0 ≡ number_of (environment point t.0)) (λ t e. state_agrees point p t.0 e) r.terms o) m) rows h.over f.met.meets
 
-  -- what is chosen is narrow, and every other variable is 0
   value_narrow : (ds : List (ℕ × Rational)) (x : ℕ) → All (λ (c : ℕ × Rational). fits c.1 ≡ true) ds → fits (chosen_value x ds) ≡ true
   value_narrow [] x a = zero_fits
   value_narrow (d ∷ ds) x a = go (eqb d.0 x) (value_narrow ds x (All-tail (λ (c : ℕ × Rational). fits c.1 ≡ true) d ds a))

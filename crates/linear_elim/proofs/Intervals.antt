@@ -1,5 +1,6 @@
--- The interval of a step: the greatest of the ends that its lower rows give, and the least of those that its upper rows give, with
--- the values chosen so far, bound exactly the values that complete to the first rows.
+-- The interval of a step: with the values chosen so far, the largest of the ends that its lower
+-- rows give and the smallest of those that its upper rows give bound exactly the values that extend
+-- to solutions.
 use Rattle.std.proofs.Common.{◌≡◌, ℕ, List, [], ◌∷◌, ◌++◌, map, refl, sym, ap, ap₂, ◌∙◌, ◌↔◌, subst, arith, Bool, true, false, cond, eqb, not, ◌||◌}
 use Rattle.std.specs.Prelude.{ℤ, Option, Some, None, is_some}
 use Rattle.std.specs.List.{All}
@@ -60,7 +61,7 @@ value_agrees f u (c ∷ cs) a e = go (eqb c.0 u) refl (value_agrees f u cs (All-
     go true h ih = ap f (sym (eqb-true c.0 u h)) ∙ All-head (λ (c : ℕ × Rational). f c.0 ≡ c.1) c cs a
     go false h ih = ih (rest (eqb u c.0) (is_in u (vars_in cs)) (turned c.0 u h) e)
 
--- The values chosen are for these variables, and each has one.
+-- Each of these variables has a chosen value, and no other one.
 pub record AreFor (vs : List ℕ) (cs : List (ℕ × Rational)) : Type 0 where
   pub within : All (λ (c : ℕ × Rational). is_in c.0 vs ≡ true) cs
   pub each : (v : ℕ) → is_in v vs ≡ true → is_in v (vars_in cs) ≡ true
@@ -68,7 +69,7 @@ pub record AreFor (vs : List ℕ) (cs : List (ℕ × Rational)) : Type 0 where
 pub agrees_on : (f : ℕ → Rational) (vs : List ℕ) (cs : List (ℕ × Rational)) → AreFor vs cs → All (λ (c : ℕ × Rational). f c.0 ≡ c.1) cs → (v : ℕ) → is_in v vs ≡ true → f v ≡ chosen_value v cs
 agrees_on f vs cs a h v e = value_agrees f v cs h (a.each v e)
 
--- ---- The values of x that meet the rows of its step
+-- ---- The values of x that satisfy the rows of its step
 
 pub placed_other : (x : ℕ) (v : Rational) (cs : List (ℕ × Rational)) (u : ℕ) (vs : List ℕ) → is_in x vs ≡ false → is_in u vs ≡ true → placed x v cs u ≡ chosen_value u cs
 placed_other x v cs u vs n e = ap (λ b. cond b v (chosen_value u cs)) (apart u x vs e n)
@@ -167,7 +168,6 @@ lows_alike x v cs rows o t = let h = all_both_ways (λ d. is_below_zero (coeffic
 pub ups_alike : (x : ℕ) (v : Rational) (cs : List (ℕ × Rational)) (rows : List Derived) (o : Option End) → IsTightest High x cs (uppers x rows) o → Met (placed x v cs) (uppers x rows) ↔ IsPast High o v
 ups_alike x v cs rows o t = let h = all_both_ways (λ d. is_above_zero (coefficient x d.row.terms) ≡ true) (λ d. is_some (narrow_end x cs d.row) ≡ true) (λ d. MeetsAt (placed x v cs) d.row) (IsPastRow High x cs v) (λ d n e. high_alike x v cs d n e) (uppers x rows) (filter_passes _ rows) t.each in (λ m. (t.values v).1 (h.0 m), λ p. h.1 ((t.values v).0 p))
 
--- The interval of a step that is reached.
 pub interval_is : (rule : Rule) (xs : List ℕ) (rows : List Derived) (s : Step) (after : List Step) (r : Reached rule xs rows s after) (cs : List (ℕ × Rational)) → AreFor r.later cs → IsCompleted (bare rows) cs → (i : Interval) → IsTightest Low s.var cs s.lows i.low → IsTightest High s.var cs s.ups i.high → IsIntervalOf (bare rows) cs r.x i
 interval_is rule xs rows s after r cs a h i l u = record {
   values = λ v. (

@@ -1,4 +1,4 @@
--- The fingerprint and the divisor of a sum, made of its terms one after the other.
+-- The fingerprint and the divisor of a sum, computed term by term.
 use Rattle.std.proofs.Common.{◌≡◌, ℕ, ◌≤◌, List, [], ◌∷◌, ◌++◌, length, drop, refl, sym, ap, ap₂, ◌∙◌}
 use Rattle.std.specs.Prelude.{ℤ, pos, negsuc, unsigned_abs}
 use Rattle.std.specs.Int.{w64, cast_unsigned}

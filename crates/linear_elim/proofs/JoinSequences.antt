@@ -1,4 +1,4 @@
--- How the joins of a step are put in, one after the other.
+-- Adding the combinations of a step.
 use Rattle.std.proofs.Common.{◌≡◌, ℕ, ◌+◌, ◌<◌, ◌≤◌, not, List, [], ◌∷◌, ◌++◌, length, get_or, drop, refl, sym, ap, ap₂, ◌∙◌, arith, Bool, true, false, cond, ◌&&◌}
 use Rattle.std.specs.Prelude.{Option, Some, None, is_some}
 use Rattle.std.specs.List.{filter}
@@ -20,7 +20,7 @@ rest_item xs i x l e = drop-cons xs i x l ∙ ap₂ (λ y n. y ∷ drop n xs) (s
 pub rest_end : {A : Type 0} (xs : List A) (i : ℕ) → length xs ≤ i → drop i xs ≡ []
 rest_end xs i h = drop_all i xs h
 
--- ---- The joins of one row
+-- ---- The combinations of one row
 
 pub each_fits_more : (x : ℕ) (l : Derived) (us : List Derived) (i : ℕ) (u : Derived) (b : Bool) → drop i us ≡ u ∷ drop (i + 1) us → true ≡ join_fits x l u → fits_each x l (drop i us) ≡ b → fits_each x l (drop (i + 1) us) ≡ b
 unfolding fits_each
@@ -50,7 +50,7 @@ pub each_rows_end : (x : ℕ) (l : Derived) (us : List Derived) (i : ℕ) (ks f 
 unfolding rows_all
 each_rows_end x l us i ks f e h = ap (λ vs. rows_all (joins x l vs) ks) (sym (rest_end us i e)) ∙ h
 
--- ---- Those of all rows
+-- ---- The combinations of all rows
 
 pub found-append : (xs ys : List Derived) (o : Option Derived) → found_all (xs ++ ys) o ≡ found_all ys (found_all xs o)
 unfolding found_all
@@ -90,7 +90,7 @@ pub all_rows_end : (x : ℕ) (ls us : List Derived) (i : ℕ) (ks f : List Deriv
 unfolding rows_all pairs
 all_rows_end x ls us i ks f e h = ap (λ vs. rows_all (pairs x vs us) ks) (sym (rest_end ls i e)) ∙ h
 
--- ---- What is gathered
+-- ---- Gathered rows
 
 found_all-is : (ds : List Derived) (o : Option Derived) → found_all ds o ≡ option_or o (contradiction ds)
 unfolding found_all contradiction
@@ -124,7 +124,7 @@ step_found x rows ls us o now e h k n = n ∙ ap₂ (λ ps qs. found_all (pairs 
 pub step_rows : (x : ℕ) (rows ls us ks now : List Derived) → ls ≡ lowers x rows → us ≡ uppers x rows → ks ≡ rows_all (kept x rows) [] → now ≡ rows_all (pairs x ls us) ks → now ≡ tidied (eliminate_one x rows)
 step_rows x rows ls us ks now e h k n = n ∙ ap₂ (λ ps qs. rows_all (pairs x ps qs) ks) e h ∙ ap (rows_all (pairs x (lowers x rows) (uppers x rows))) k ∙ sym (rows-append (kept x rows) (pairs x (lowers x rows) (uppers x rows)) []) ∙ rows_none (eliminate_one x rows)
 
--- ---- What a step gives
+-- ---- The result of a step
 
 step_fit : (x : ℕ) (rows ls us : List Derived) (b : Bool) → ls ≡ lowers x rows → us ≡ uppers x rows → b ≡ pairs_fit x ls us → b ≡ true → true ≡ step_fits x rows
 step_fit x rows ls us b e h f t = sym t ∙ f ∙ ap₂ (pairs_fit x) e h

@@ -1,4 +1,4 @@
--- The rows of an elimination stay as the code keeps them.
+-- An elimination preserves the invariant of rows in the program.
 use Rattle.std.proofs.Common.{◌≡◌, ℕ, ◌*◌, ◌<◌, ◌^◌, List, [], ◌∷◌, refl, sym, arith, subst, Bool, true, ◌&&◌, nat_lt}
 use Rattle.std.specs.Prelude.{ℤ, pos, unsigned_abs}
 use Rattle.std.proofs.Math.Nat.{mul-pos}

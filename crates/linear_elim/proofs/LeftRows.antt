@@ -1,4 +1,4 @@
--- How the rows that no other one dominates are found.
+-- The search for the rows that no other row dominates.
 use Rattle.std.proofs.Common.{◌≡◌, ℕ, ◌+◌, ◌<◌, ◌≤◌, List, [], ◌∷◌, ◌++◌, append_assoc, append-nil, length, drop, get_or, map, refl, sym, ap, ◌∙◌, arith, Bool, true, false, cond, not, ◌||◌, ◌&&◌}
 use Rattle.std.specs.Prelude.{Option, Some, None, is_some}
 use Prim.Native.Nat.{suc}
@@ -63,7 +63,7 @@ other_left r o b d e s h = go (is_sign_row r.row) (sym (ap is_some e) ∙ s)
     go true e = absurd (cc)
     go false e = ap not h
 
--- ---- Which rows are left, and how many
+-- ---- The rows that are left, and their number
 
 abbrev pub stays : List Derived → Derived → Bool
 stays rows d = not (is_dominated (bare rows) d.row)
@@ -95,7 +95,7 @@ count_end p ds i k n l h m = let e = ap (λ xs. length (filter p xs)) (rest_end 
 pub too_many_left : (p : Derived → Bool) (ds : List Derived) (i : ℕ) (d : Derived) (k n : ℕ) → drop i ds ≡ d ∷ drop (i + 1) ds → true ≡ p d → k + length (filter p (drop i ds)) ≡ n → 4096 ≤ k → 4096 < n
 too_many_left p ds i d k n e s h l = let m = ap (λ xs. length (filter p xs)) e ∙ passes_more p d (drop (i + 1) ds) (sym s) in omega (arith, m, h, l)
 
--- ---- The rows that are picked
+-- ---- The marked rows
 
 pub pick_is : (p : Derived → Bool) (all : List Derived) (left : List Bool) (i : ℕ) (r : Derived) (e : Bool) → left ≡ map p all → i < length all → r ≡ get_or all i r → get_or left i e ≡ p r
 pick_is p all left i r e h l g = ap (λ xs. get_or xs i e) h ∙ get_or-map p all i r e l ∙ ap p (sym g)

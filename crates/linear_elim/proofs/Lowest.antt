@@ -1,4 +1,4 @@
--- Rows and shares brought to lowest terms.
+-- Rows and multipliers in lowest terms.
 use Rattle.std.proofs.Common.{◌≡◌, ℕ, ◌*◌, ◌/◌, ◌<◌, List, [], ◌∷◌, map, refl, ap, ap₂, ◌∙◌, arith}
 use Rattle.std.specs.Prelude.{ℤ, pos, negsuc, ◌+ℤ◌, ◌*ℤ◌}
 use Rattle.std.proofs.Math.IntN.{neg_ℤ, *ℤ-zero}
@@ -18,7 +18,7 @@ use Rattle.linear_rows.proofs.exported.Sums.{sum_at-nil, sum_at-cons}
 use Rattle.linear_rows.specs.Divisors.{common, or_one}
 use Rattle.linear_elim.specs.Joins.{row_divisor, lowest}
 
--- the first row taken g times is the second
+-- The first row times `g` is the second.
 pub record IsTimes (g : ℕ) (r s : Row) : Type 0 where
   pub positive : 0 < g
   pub sums : (f : ℕ → ℤ) → pos g *ℤ sum_at f r.terms ≡ sum_at f s.terms

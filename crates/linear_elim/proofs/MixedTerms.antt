@@ -1,4 +1,4 @@
--- How the terms of a join are made from those of two rows, one after the other.
+-- The terms of a combination, computed from those of two rows term by term.
 use Rattle.std.proofs.Common.{◌≡◌, ℕ, ◌+◌, ◌-◌, ◌*◌, ◌<◌, ◌≤◌, ◌^◌, List, [], ◌∷◌, ◌++◌, append_assoc, append-nil, length, take, set, drop, get_or, refl, sym, ap, ap₂, subst, ◌∙◌, arith, true, false, cond, eqb, ltb, drop-cons, div-one, to_z, of_z, FitsSigned}
 use Rattle.std.proofs.lemmas.Int.{to_z-of_z, quot_fits}
 use mir.Syntax.{w64}

@@ -1,4 +1,4 @@
--- The shares of the rows of an elimination stay below 2^62.
+-- The multipliers of the rows of an elimination are below 2^62.
 use Rattle.std.proofs.Common.{◌≡◌, ℕ, ◌<◌, ◌^◌, List, [], ◌∷◌, sym, arith, true, ◌&&◌}
 use Rattle.std.specs.Prelude.{ℤ, pos, unsigned_abs}
 use Prim.Native.Nat.{suc}

@@ -1,4 +1,4 @@
--- What the code's numbers are.
+-- The numbers of the program as integers.
 use Rattle.std.proofs.Common.{◌≡◌, ℕ, ◌*◌, ◌<◌, ◌^◌, List, [], ◌∷◌, refl, sym, ap, ap₂, ◌∙◌, arith, to_z, of_z, Bool, true, false, ◌&&◌, ◌||◌, nat_lt}
 use Rattle.std.specs.Prelude.{ℤ, pos, negsuc, ◌+ℤ◌, ◌*ℤ◌, ◌<ℤ◌, unsigned_abs, Result, Ok, Err, IfOk}
 use Rattle.std.proofs.Math.Nat.{mul-pos}
@@ -20,7 +20,6 @@ wide_sum a b p q e h k l = rw (e, h) (plain p q k l)
     plain : (p q : ℤ) → unsigned_abs p < 2 ^ 124 → unsigned_abs q < 2 ^ 124 → to_z w128 (of_z w128 (to_z w128 (of_z w128 p) +ℤ to_z w128 (of_z w128 q))) ≡ p +ℤ q
     plain p q k l = omega (arith, ints, k, l)
 
--- Products of narrow numbers are wide.
 pub narrow_wide : (p : ℕ) (ts : List (ℕ × ℤ)) → p < 2 ^ 62 → All (λ t. unsigned_abs t.1 < 2 ^ 62) ts → are_wide (pos p) ts ≡ true
 unfolding are_wide
 narrow_wide p [] h k = refl

@@ -1,4 +1,5 @@
--- Values that meet the rows after a step are those that extend to the rows before it.
+-- Values satisfy the rows after a step exactly if they extend to values that satisfy the rows
+-- before it.
 use Rattle.std.proofs.Common.{◌≡◌, ℕ, List, [], ◌∷◌, refl, ap, ◌∙◌, Bool, true, false, cond, eqb, ◌||◌}
 use Rattle.std.specs.Prelude.{ℤ, None}
 use Rattle.std.specs.List.{All}
@@ -46,7 +47,7 @@ met_tidied rule x xs f rows e g m = point_met f xs rows g (ruled-out rule (point
 pub met_after : (x : ℕ) (xs : List ℕ) (f : ℕ → Rational) (rows : List Derived) → All (Good (x ∷ xs)) rows → Met f rows → Met f (eliminate_one x rows)
 met_after x xs f rows g m = point_met f (x ∷ xs) (eliminate_one x rows) (good_more x xs (eliminate_one x rows) (step-good x xs rows g)) (step-sound x (point_of f (x ∷ xs)) rows (met_point f (x ∷ xs) rows g m))
 
--- The values with one changed, so that they meet the rows.
+-- The values with one changed, so that they satisfy the rows.
 pub record Extended (x : ℕ) (f : ℕ → Rational) (rows : List Derived) : Type 0 where
   pub values : ℕ → Rational
   pub agrees : (v : ℕ) → eqb v x ≡ false → values v ≡ f v

@@ -1,4 +1,4 @@
--- How rows are split by the sign of a coefficient.
+-- Splitting rows by the sign of a coefficient.
 use Rattle.std.proofs.Common.{◌≡◌, ℕ, List, [], ◌∷◌, ◌++◌, refl, sym, ap, ◌∙◌, arith, subst, Bool, true, false, cond}
 use Rattle.std.specs.Prelude.{ℤ, pos, negsuc, Option, None}
 use Rattle.std.specs.List.{filter}

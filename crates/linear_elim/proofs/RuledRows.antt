@@ -1,4 +1,4 @@
--- What tidying the rows by a rule keeps of them, whether dominated rows stay or not.
+-- Properties of rows that are preserved when the rows are tidied by a rule.
 use Rattle.std.proofs.Common.{◌≡◌, List, [], ◌∷◌, refl, ap, subst, sym, Bool, true, false, cond, not}
 use Rattle.std.specs.Prelude.{None}
 use Rattle.std.specs.List.{All, filter}

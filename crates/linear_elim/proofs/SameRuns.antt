@@ -1,4 +1,4 @@
--- Where no variable has its sign row, the elimination is the same without dominated rows.
+-- If no variable has its sign row, the elimination is the same without dominated rows.
 use Rattle.std.proofs.Common.{◌≡◌, ℕ, ◌<◌, List, [], ◌∷◌, length, map, refl, sym, ap, subst, ◌∙◌, arith, Bool, true, false, cond, not, eqb, ltb, ◌||◌, ◌&&◌}
 use Rattle.std.specs.Prelude.{ℤ, Option, Some}
 use Rattle.std.proofs.lemmas.Bool.{eqb-true}
@@ -56,16 +56,15 @@ no_signs xs (r ∷ rs) o h =
 pub step_over : (x : ℕ) (xs ys : List ℕ) (rows : List Derived) → ys ≡ x ∷ xs → All IsDerived rows → All (λ r. IsOver ys r.row.terms) rows → All (λ r. IsOver xs r.row.terms) (tidied (eliminate_one x rows))
 step_over x xs ys rows e d o = All-weaker (Good xs) (λ r. IsOver xs r.row.terms) (λ r g. g.within) (tidied (eliminate_one x rows)) (tidied-all (Good xs) (eliminate_one x rows) (step-good x xs rows (All-both IsDerived (λ r. IsOver ys r.row.terms) (Good (x ∷ xs)) (λ r a b. record { normal = a.is_row.normal; within = subst (λ vs. IsOver vs r.row.terms) e b }) rows d o)))
 
--- After a step whose rows have no signs no row is dominated.
 pub none_after : (x : ℕ) (xs ys : List ℕ) (rows : List Derived) → ys ≡ x ∷ xs → All IsDerived rows → All (λ r. IsOver ys r.row.terms) rows → AreSignless xs (tidied (eliminate_one x rows)) → undominated (tidied (eliminate_one x rows)) ≡ tidied (eliminate_one x rows)
 none_after x xs ys rows e d o h = none_dominated (tidied (eliminate_one x rows)) (tidied (eliminate_one x rows)) refl (no_signs xs (tidied (eliminate_one x rows)) (step_over x xs ys rows e d o) h)
 
--- ---- Runs that are the same
+-- ---- Equal runs
 
 abbrev made : Option Derived → List Derived → Gathered
 made o rs = record { found = o; rows = rs }
 
--- The runs from these rows, without dominated ones and with them.
+-- The runs from these rows are the same with dominated rows and without them.
 abbrev pub AreSame : List ℕ → Option Derived → List Derived → Type 0
 AreSame xs o rows = (n : ℕ) → run drops n xs (made o (undominated rows)) ≡ run keeps n xs (made o rows)
 
@@ -109,15 +108,12 @@ same_step xs ys x o rows e l h = from_left xs o rows l (λ n. subst (λ zs. run 
     go : (n : ℕ) → run drops n (x ∷ ys) (made o rows) ≡ run keeps n (x ∷ ys) (made o rows)
     go n = ap (λ r. ended_by o (unless_many n rows r)) (fit n (step_fits x rows) refl)
 
--- A step that doesn't fit.
 pub same_great : (xs ys : List ℕ) (x : ℕ) (o : Option Derived) (rows : List Derived) → xs ≡ x ∷ ys → undominated rows ≡ rows → false ≡ step_fits x rows → AreSame xs o rows
 same_great xs ys x o rows e l f = same_step xs ys x o rows e l (λ t. let k : false ≡ true = f ∙ sym t in absurd (cc))
 
--- A step after which many rows are counted.
 pub same_counted : (xs ys : List ℕ) (x : ℕ) (o : Option Derived) (rows : List Derived) (k : ℕ) → xs ≡ x ∷ ys → undominated rows ≡ rows → undominated (tidied (eliminate_one x rows)) ≡ tidied (eliminate_one x rows) → k ≡ length (tidied (eliminate_one x rows)) → 4096 < k → AreSame xs o rows
 same_counted xs ys x o rows k e l m c h = same_step xs ys x o rows e l (λ t. same_many ys (contradiction (eliminate_one x rows)) (tidied (eliminate_one x rows)) k m c h)
 
--- A step after which the rows are kept.
 pub same_kept : (xs ys : List ℕ) (x : ℕ) (o p : Option Derived) (rows next : List Derived) → xs ≡ x ∷ ys → undominated rows ≡ rows → p ≡ contradiction (eliminate_one x rows) → next ≡ tidied (eliminate_one x rows) → AreSame ys p next → AreSame xs o rows
 same_kept xs ys x o p rows next e l f r h = same_step xs ys x o rows e l (λ t. subst (λ q. AreSame ys q (tidied (eliminate_one x rows))) f (subst (AreSame ys p) r h))
 

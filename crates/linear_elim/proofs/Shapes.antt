@@ -1,4 +1,4 @@
--- The rows of an elimination grow by variable, and lose one variable in each step.
+-- The variables of the rows of an elimination increase, and each step removes one of them.
 use Rattle.std.proofs.Common.{◌≡◌, ℕ, ◌<◌, List, [], ◌∷◌, map, sym, ap, ◌∙◌, arith, true}
 use Rattle.std.specs.Prelude.{ℤ, pos, ◌+ℤ◌, ◌*ℤ◌, ◌≤ℤ◌}
 use Rattle.std.proofs.Math.IntN.{neg_ℤ, *ℤ-zero, *ℤ_comm}
@@ -53,7 +53,7 @@ pub lowest-normal : (r : Row) → IsNormal r.terms → IsNormal (lowest r).terms
 unfolding lowest DividesAll
 lowest-normal r k = divided-normal (row_divisor r) r.terms (or_one-divides r.terms (unsigned_abs r.rest) (common r.terms (unsigned_abs r.rest)) (common-divides r.terms (unsigned_abs r.rest))).0 k
 
--- a row over some variables
+-- A row over some variables.
 pub record Good (vs : List ℕ) (r : Derived) : Type 0 where
   pub normal : IsNormal r.row.terms
   pub within : IsOver vs r.row.terms

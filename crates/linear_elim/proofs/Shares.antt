@@ -1,4 +1,4 @@
--- A joined row follows from the first rows by its shares.
+-- A combination follows from the first rows by its multipliers.
 use Rattle.std.proofs.Common.{◌≡◌, ℕ, ◌*◌, ◌/◌, ◌<◌, List, [], ◌∷◌, length, refl, sym, ap, ap₂, ◌∙◌, arith, Bool, true, false, cond, eqb, ltb, ◌||◌}
 use Rattle.std.specs.Prelude.{ℤ, pos, negsuc, ◌+ℤ◌, ◌*ℤ◌, ◌<ℤ◌}
 use Rattle.std.specs.Int.RustNames.{unsigned_abs, int_div}
@@ -122,7 +122,6 @@ quotient_positive h o d p = go (o / h) (times_back h o d)
     go zero e = absurd (omega (arith, e))
     go (suc q) e = omega arith
 
--- What the shares' sum is once they and their multiple are divided.
 divided_sum : (F : ℕ → ℤ) (h o : ℕ) (x : ℤ) (ms : List (ℕ × ℤ)) → 0 < h → All (λ t. h ∣ unsigned_abs t.1) ms → h ∣ o → pos o *ℤ x ≡ sum_at F ms → pos (o / h) *ℤ x ≡ sum_at F (divided_terms h ms)
 divided_sum F h o x ms p d e k = cancel h _ _ p (regroup (pos h) (pos (o / h)) x ∙ ap (λ n. pos n *ℤ x) (times_back h o e) ∙ k ∙ sym (sum_at-divided F h ms d))
   where

@@ -1,4 +1,4 @@
--- How a run without dominated rows ends.
+-- The outcome of a run without dominated rows.
 use Rattle.std.proofs.Common.{◌≡◌, ℕ, ◌+◌, ◌<◌, ◌≤◌, List, [], ◌∷◌, ◌++◌, length, refl, sym, ap, ap₂, subst, ◌∙◌, true, not}
 use Rattle.std.specs.Prelude.{Option, Some, None, Result, Ok, Err, IfOk}
 use Rattle.std.specs.List.{All}
@@ -18,7 +18,6 @@ use Rattle.linear_elim.specs.internal.DerivedRows.{IsDerived}
 use Rattle.linear_elim.specs.declared.gathered_rows.Gathering.{Gathering}
 use Rattle.linear_elim.proofs.FoundEnds.{ends_many, goes_on, found_next, many_next}
 
--- Too many rows are a limit, and so is a number that is too great.
 pub many_limited : (n k : ℕ) (o : Outcome) → too_many n k ≡ o → IsLimited o
 many_limited n k o e = subst IsLimited e tt
 
@@ -45,7 +44,6 @@ short_started order rows ss o ks e f h = ap₂ (λ (ts : List Step) (g : Gathere
 pub left_derived : (rows left : List Derived) → left ≡ undominated rows → All IsDerived rows → All IsDerived left
 left_derived rows left e h = subst (All IsDerived) (sym e) (All-filter (λ d. not (is_dominated (bare rows) d.row)) IsDerived rows h)
 
--- A step from the rows that are left.
 pub next_short : (ss now : List Step) (n : ℕ) (xs ys : List ℕ) (x : ℕ) (g h : Gathering) (s : Step) (left : List Derived) → left ≡ undominated g.rows.items → length left ≤ 4096 → xs ≡ x ∷ ys → g.found ≡ None → (true ≡ step_fits x left) × (s ≡ step_of x left) × (h.found ≡ contradiction (eliminate_one x left)) × (h.rows.items ≡ tidied (eliminate_one x left)) → now ≡ ss ++ s ∷ [] → after_all now (run drops (n + 1) ys (short_gathering h)) ≡ after_all ss (run drops n xs (short_gathering g))
 next_short ss now n xs ys x g h s left e l m k p r =
     let q = subst (λ ds. (true ≡ step_fits x ds) × (s ≡ step_of x ds) × (h.found ≡ contradiction (eliminate_one x ds)) × (h.rows.items ≡ tidied (eliminate_one x ds))) e p in
@@ -54,7 +52,6 @@ next_short ss now n xs ys x g h s left e l m k p r =
 pub left_over : (order : List ℕ) (rows left : List Derived) → left ≡ undominated rows → All (λ r. IsOver order r.row.terms) rows → All (λ r. IsOver order r.row.terms) left
 left_over order rows left e h = subst (All (λ r. IsOver order r.row.terms)) (sym e) (All-filter (λ d. not (is_dominated (bare rows) d.row)) (λ r. IsOver order r.row.terms) rows h)
 
--- A step from the rows that are left, after which many are counted, and none of them is dominated.
 pub short_counted : (ss : List Step) (n : ℕ) (xs ys : List ℕ) (x : ℕ) (g : Gathering) (left : List Derived) (c : ℕ) (o : Option Derived) (r : Short) → left ≡ undominated g.rows.items → length left ≤ 4096 → xs ≡ x ∷ ys → g.found ≡ None → (true ≡ step_fits x left) × (o ≡ contradiction (eliminate_one x left)) × (c ≡ length (tidied (eliminate_one x left))) × (4096 < c) → undominated (tidied (eliminate_one x left)) ≡ tidied (eliminate_one x left) → ((d : Derived) (p : Outcome) → o ≡ Some d → refuted d ≡ p → IsShort r p) → ((p : Outcome) → o ≡ None → IsLimited p → IsShort r p) → IsShort r (after_all ss (run drops n xs (short_gathering g)))
 short_counted ss n xs ys x g left c o r e l m k p q f t = subst (λ ds. IsShort r (after_all ss (run drops n xs (made g.found ds)))) e (go o p.1 f t)
   where

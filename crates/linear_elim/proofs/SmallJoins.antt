@@ -1,4 +1,4 @@
--- The join of two rows whose numbers are small fits.
+-- The combination of two rows with small numbers fits.
 use Rattle.std.proofs.Common.{◌≡◌, ℕ, ◌*◌, ◌/◌, ◌<◌, ◌^◌, List, [], ◌∷◌, refl, sym, ap, ap₂, subst, ◌∙◌, arith, Bool, true, false, cond, eqb, nat_lt, div-le_self}
 use Rattle.std.specs.Prelude.{ℤ, pos, negsuc, ◌+ℤ◌, ◌*ℤ◌, unsigned_abs}
 use Rattle.std.specs.Int.RustNames.{int_div}
@@ -37,7 +37,6 @@ nothing_plus z = omega (arith, ints)
 same_var : (n : ℕ) → eqb n n ≡ true
 same_var n = grind arith
 
--- the coefficient of a sum's first variable, and of another one
 first_is : (t : ℕ × ℤ) (ts : List (ℕ × ℤ)) → IsNormal (t ∷ ts) → coefficient t.0 (t ∷ ts) ≡ t.1
 unfolding coefficient
 first_is t ts k = ap₂ (λ b z. cond b t.1 (pos 0) +ℤ z) (same_var t.0) (later t.0 ts k.1.0) ∙ plus_nothing t.1

@@ -1,4 +1,4 @@
--- One step keeps, both ways, that rows can be met.
+-- A step preserves solvability, in both directions.
 use Rattle.std.proofs.Common.{◌≡◌, ℕ, ◌<◌, List, [], ◌∷◌, ◌++◌, map, refl, sym, ap, ◌∙◌, arith, subst, true, cond, ◌||◌}
 use Rattle.std.specs.Prelude.{ℤ, pos, negsuc, ◌+ℤ◌, ◌*ℤ◌}
 use Rattle.std.specs.Int.RustNames.{unsigned_abs}
@@ -53,7 +53,6 @@ joined-strict : (x : ℕ) (l u : Derived) → (join x l u).row.strict ≡ (l.row
 unfolding join lowest mixed_row
 joined-strict x l u = refl
 
--- the value of a joined row, up to the divisor that brings it to lowest terms
 joined-value : (x : ℕ) (w : Point) (l u : Derived) → pos (row_divisor (joined_row x l u)) *ℤ left_side w (join x l u).row ≡ (pos (size x u) *ℤ left_side w l.row) +ℤ (pos (size x l) *ℤ left_side w u.row)
 unfolding join
 joined-value x w l u = left_side-times w (row_divisor (joined_row x l u)) (lowest (joined_row x l u)) (joined_row x l u) (lowest-is (joined_row x l u)) ∙ left_side-mixed w (size x u) l.row (size x l) u.row
@@ -86,7 +85,6 @@ unfolding pairs
 pairs-out P x [] us h = All-nil _
 pairs-out P x (l ∷ ls) us h = All-cons (λ l. All (λ u. P (join x l u)) us) l ls (all_map-out P (join x l) us (all_append-left P (map (join x l) us) (pairs x ls us) h)) (pairs-out P x ls us (all_append-right P (map (join x l) us) (pairs x ls us) h))
 
--- a step adds only what follows
 pub step-sound : (x : ℕ) (w : Point) (rows : List Derived) → All (MeetsIn w) rows → All (MeetsIn w) (eliminate_one x rows)
 step-sound x w rows h = All-append (MeetsIn w) (kept x rows) (pairs x (lowers x rows) (uppers x rows)) (All-filter _ (MeetsIn w) rows h)
     (pairs-all (MeetsIn w) x (lowers x rows) (uppers x rows)
@@ -94,7 +92,6 @@ step-sound x w rows h = All-append (MeetsIn w) (kept x rows) (pairs x (lowers x 
     (λ l p m. All-both (IsUpper x) (MeetsIn w) (λ u. Meets w (join x l u).row) (λ u q n. join-meets x w l u p q m n) (uppers x rows) (filter_passes _ rows) (All-filter _ (MeetsIn w) rows h))
     (lowers x rows) (filter_passes _ rows) (All-filter _ (MeetsIn w) rows h)))
 
--- each row stays, or bounds the variable from one side
 pub by_sign : (P : Derived → Type 0) (x : ℕ) (rows : List Derived) → All P (kept x rows) → All P (lowers x rows) → All P (uppers x rows) → All P rows
 by_sign P x [] k l u = All-nil P
 by_sign P x (r ∷ rows) k l u = go (by_sign P x rows) (coefficient x r.row.terms) k l u
@@ -118,7 +115,6 @@ lower_value k a v d c e = rw (e, neg_times a d) (omega (arith, ints))
 zero_value : (k v d c : ℤ) → c ≡ pos 0 → (k *ℤ v) +ℤ (c *ℤ d) ≡ k *ℤ v
 zero_value k v d c e = rw (e, zero-*ℤ d) (omega (arith, ints))
 
--- the rows after a step leave a value for the variable
 pub step-complete : (x : ℕ) (w : Point) (rows : List Derived) → All (MeetsIn w) (eliminate_one x rows) → Extension (x ∷ []) w rows
 step-complete x w rows h =
     let rest = all_append-left (MeetsIn w) (kept x rows) (pairs x (lowers x rows) (uppers x rows)) h in

@@ -36,7 +36,6 @@ after-refuted s (standing ss) c e = absurd (cc)
 after-refuted s (too_many n m) c e = absurd (cc)
 after-refuted s too_great c e = absurd (cc)
 
--- What holds of the rows at the start and after a step that fits holds of what refutes them.
 pub refuted-all : (rule : Rule) (P : Derived → Type 0) → ((x : ℕ) (rows : List Derived) → true ≡ step_fits x rows → All P rows → All P (eliminate_one x rows)) → (n : ℕ) (xs : List ℕ) (rows : List Derived) (c : Derived) → run rule n xs (gathered rule rows) ≡ refuted c → All P rows → P c × (is_contradiction c.row ≡ true)
 unfolding run
 refuted-all rule P next n [] rows c e h = go (contradiction rows) refl e
@@ -59,7 +58,6 @@ refuted-all rule P next n (x ∷ xs) rows c e h = go (λ f k. refuted-all rule P
     go ih None k e = many ih (ltb 4096 (length (tidied_by rule rows))) (step_fits x (tidied_by rule rows)) refl e
     go ih (Some d) k e = let s : d ≡ c = cc in contradiction-some P rows c (k ∙ ap (λ x. Some x) s) h
 
--- points
 cross : (a b c : ℕ) (t u v : ℤ) → 0 < b → t *ℤ pos b ≡ u *ℤ pos a → u *ℤ pos c ≡ v *ℤ pos b → t *ℤ pos c ≡ v *ℤ pos a
 cross a b c t u v p e h = cancel b _ _ p (turn (pos b) t (pos c) ∙ ap (λ z. z *ℤ pos c) e ∙ swap u (pos a) (pos c) ∙ ap (λ z. z *ℤ pos a) h ∙ back v (pos b) (pos a))
   where
@@ -96,7 +94,6 @@ after-standing s (standing ts) ss e = (ts, refl, cc)
 after-standing s (too_many n m) ss e = absurd (cc)
 after-standing s too_great ss e = absurd (cc)
 
--- Every point extends to one that meets the rows, once all their variables are eliminated.
 pub run-extends : (rule : Rule) (n : ℕ) (xs : List ℕ) (rows : List Derived) (ss : List Step) → run rule n xs (gathered rule rows) ≡ standing ss → All (Good xs) rows → (w : Point) → Extension xs w rows
 unfolding run
 run-extends rule n [] rows ss e g w = go (contradiction rows) refl e
@@ -121,7 +118,6 @@ run-extends rule n (x ∷ xs) rows ss e g w = go (λ ts k. run-extends rule (suc
 abbrev pub origin : Point
 origin = record { below = 1; positive = omega arith; top = λ v. pos 0 }
 
--- The start.
 pub start-all : (P : Row → Type 0) (Q : Derived → Type 0) → ((d : Derived) → P d.row → Q d) → (k : ℕ) (rows : List Row) → All P rows → All Q (start k rows)
 unfolding start
 start-all P Q f k [] h = All-nil _
@@ -132,7 +128,6 @@ unfolding start
 start-out P k [] h = All-nil _
 start-out P k (r ∷ rs) h = All-cons P r rs (All-head (λ d. P d.row) (record { row = r; shares = (k, pos 1) ∷ []; over = 1 }) (start (suc k) rs) h) (start-out P (suc k) rs (All-tail (λ d. P d.row) (record { row = r; shares = (k, pos 1) ∷ []; over = 1 }) (start (suc k) rs) h))
 
--- Without a contradiction at the end the rows are met somewhere.
 pub complete : (rule : Rule) (order : List ℕ) (first : List Row) (ss : List Step) → All (λ r. IsNormal r.terms × IsOver order r.terms) first → elimination_by rule order first ≡ standing ss → IsMetSomewhere first
 complete rule order first ss h e =
     let x = run-extends rule 0 order (start 0 first) ss e (start-all (λ r. IsNormal r.terms × IsOver order r.terms) (Good order) (λ d p. record { normal = p.0; within = p.1 }) 0 first h) origin in

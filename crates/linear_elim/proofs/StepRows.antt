@@ -1,4 +1,4 @@
--- The rows of the steps are as the code keeps them.
+-- The rows of the steps satisfy the invariant of the program.
 use Rattle.std.proofs.Common.{◌≡◌, ℕ, List, [], ◌∷◌, length, refl, sym, subst, Bool, true, false, cond, ltb}
 use Rattle.std.specs.Prelude.{Option, Some, None}
 use Prim.Native.Nat.{suc}

@@ -28,7 +28,6 @@ less_scaled a b k p h = flip (λ l. no (≤ℤ-cancel b a k p l))
     flip : ((b *ℤ pos k) ≤ℤ (a *ℤ pos k) → ⊥) → (a *ℤ pos k) <ℤ (b *ℤ pos k)
     flip f = grind (arith, ints)
 
--- of two sums with the same terms, the one that isn't weaker tells the other
 weaker_strictly : (s t : Bool) (u a b : ℤ) → a <ℤ b → IsBelow s (u +ℤ b) → IsBelow t (u +ℤ a)
 weaker_strictly s t u a b l h = below-strong t _ (let k = below-weak s _ h in omega (arith, ints, l, k))
 
@@ -96,7 +95,6 @@ strongest-out w ks (r ∷ rs) h =
 pub tidied-all : (P : Derived → Type 0) (rows : List Derived) → All P rows → All P (tidied rows)
 tidied-all P rows h = strongest-all P [] _ (All-nil _) (All-filter _ P rows h)
 
--- a row without variables that is no contradiction is met at every point
 trivial : (w : Point) (r : Row) → has_terms r.terms ≡ false → is_contradiction r ≡ false → Meets w r
 trivial w r e h = record { met = go r.terms e r.rest r.strict h }
   where

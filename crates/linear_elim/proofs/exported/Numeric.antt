@@ -1,2 +1,3 @@
--- Meant for the proofs of other crates. A variable that occurs in rows over numbers is of a type of numbers.
+-- For the proofs of other crates: a variable that occurs in rows over numbers is of a type of
+-- numbers.
 pub use Rattle.linear_elim.proofs.Greedily.{counted_numeric}
