@@ -12,7 +12,6 @@ use Rattle.goal_answers.specs.Trees.{Tree}
 use Rattle.linear_form.specs.Paths.{Asks}
 use Rattle.farkas_check.specs.AcceptedCertificates.{IsAccepted, IsRefused, IsCertificate, IsNoCertificate}
 
--- One question is asked at the end of a path.
 pub one_question : (g : Goal) (ps : List Taken) (q r : Atom) → Asks g ps q → Asks g ps r → q ≡ r
 one_question g ps q r a b = go q r a.yes a.no b.yes b.no (sym a.question ∙ b.question)
   where
@@ -61,7 +60,7 @@ one_refusal g t _ _ (IsNoCertificate.product span e) (IsNoCertificate.at_node pl
 one_refusal g t _ _ (IsNoCertificate.at_node place f h) (IsNoCertificate.product span e) = let k = sym f ∙ e in absurd (cc)
 one_refusal g t _ _ (IsNoCertificate.at_node place f h) (IsNoCertificate.at_node other e k) = one_place g t [] place other h k
 
--- ---- What the answers of the check say
+-- ---- The answers of the check
 
 pub root_refused : (g : Goal) (t : Tree) (items : List Bool) (span : Span) → nonlinear_product g ≡ Some span → items ≡ [] → IsNoCertificate g t items
 root_refused g t items span e h = subst (IsNoCertificate g t) (sym h) (IsNoCertificate.product span e)

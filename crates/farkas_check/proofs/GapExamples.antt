@@ -1,4 +1,5 @@
--- A goal that holds of whole numbers and fails for a fraction, and its certificate, in which x is split at 0. Split at 1 it is refused.
+-- A goal that holds for integers and fails for a fraction, and its certificate, in which x is split
+-- at 0. Split at 1 it is refused.
 use Rattle.std.proofs.Common.{◌≡◌, ℕ, ◌<◌, ◌^◌, List, [], ◌∷◌, refl, sym, ap, ◌∙◌, subst, arith, lit<, Bool, true, false, cond, eqb, inl, inr, ◌⊎◌}
 use Rattle.std.specs.Prelude.{pos, negsuc, Some, None, is_some, ℤ, ◌+ℤ◌, ◌*ℤ◌, ◌<ℤ◌, length, take, unsigned_abs}
 use Prim.Native.Nat.{zero, suc}
@@ -34,30 +35,30 @@ number n = Form.number (finite (whole n))
 twice_x : Form
 twice_x = Form.scale (whole (pos 2)) (Form.variable 0)
 
--- ite(y <= 2*x && y <= 2 - 2*x && 1 <= y, 0, 1) is at least 1
+-- `ite(y <= 2*x && y <= 2 - 2*x && 1 <= y, 0, 1)` is at least 1.
 gap : Goal
 gap = record { upper = true; stated = Form.select (Cond.and (Cond.and (Cond.le (Form.variable 1) twice_x) (Cond.le (Form.variable 1) (Form.difference (number (pos 2)) twice_x))) (Cond.le (number (pos 1)) (Form.variable 1))) (number (pos 0)) (number (pos 1)); found = number (pos 1); types = Ty.Int ∷ (Ty.Int ∷ []); names = [] ∷ ([] ∷ []); own = 2 }
 
--- a multiple of x, one of y, and a constant
+-- A multiple of x, one of y, and a constant.
 of_both : ℤ → ℤ → ℤ → Lin
 of_both p q c = record { terms = (0, ratio p 1) ∷ ((1, ratio q 1) ∷ []); rest = ratio c 1 }
 
--- y - 2x <= 0
+-- `y - 2x <= 0`.
 first_question : Atom
 first_question = Atom.row (of_both (negsuc 1) (pos 1) (pos 0)) false
 
--- 2x + y - 2 <= 0
+-- `2x + y - 2 <= 0`.
 second_question : Atom
 second_question = Atom.row (of_both (pos 2) (pos 1) (negsuc 1)) false
 
--- 1 - y <= 0
+-- `1 - y <= 0`.
 third_question : Atom
 third_question = Atom.row (record { terms = (1, ratio (negsuc 0) 1) ∷ []; rest = ratio (pos 1) 1 }) false
 
 lin : ℤ → Lin
 lin n = constant (ratio n 1)
 
--- where all three hold the stated value is 0, else 1, and the found one is 1
+-- If all three hold, the stated value is 0, otherwise 1; the computed one is 1.
 tree : Query Ends
 tree = ask first_question (ask second_question (ask third_question (done (Some (lin (pos 0)), Some (lin (pos 1)))) (done (Some (lin (pos 1)), Some (lin (pos 1))))) (done (Some (lin (pos 1)), Some (lin (pos 1))))) (done (Some (lin (pos 1)), Some (lin (pos 1))))
 
@@ -71,14 +72,14 @@ yes q = record { atom = q; held = true }
 no : Atom → Taken
 no q = record { atom = q; held = false }
 
--- the cell in which all three hold, and its halves
+-- The cell in which all three hold, and its halves.
 all_hold : List Taken
 all_hold = yes first_question ∷ (yes second_question ∷ (yes third_question ∷ []))
 
 half : ℤ → Bool → List Taken
 half m held = onto all_hold (split_at 0 m) held
 
--- the fronts behind which one of them fails
+-- The fronts at which one of them fails.
 third_fails : List Taken
 third_fails = yes first_question ∷ (yes second_question ∷ (no third_question ∷ []))
 
@@ -91,7 +92,6 @@ first_fails = no first_question ∷ []
 end_of_gap : (ps : List Taken) (t : Query Ends) → walk tree ps ≡ t → end_at gap ps ≡ t
 end_of_gap ps t e = ap (λ q. walk q ps) questions_of_gap ∙ e
 
--- an end at which the goal isn't plain has the denied goal among its rows
 denied_in : (ps : List Taken) (a b : Lin) → end_at gap ps ≡ done (Some a, Some b) → has_denied gap ps ≡ true
 unfolding gap
 denied_in ps a b e = ap (λ t. is_some (denial_at true t)) e
@@ -125,7 +125,7 @@ of_y q c = record { terms = (1, q) ∷ []; rest = c; strict = false }
 denied_goal : ℤ → Row
 denied_goal c = record { terms = []; rest = c; strict = true }
 
--- the three comparisons, the split's, and 0 < 1, which denies the goal
+-- The three comparisons, that of the split, and `0 < 1`, which denies the goal.
 rows_with : Row → List Row
 rows_with r = row (negsuc 1) (pos 1) (pos 0) ∷ (row (pos 2) (pos 1) (negsuc 1) ∷ (of_y (negsuc 0) (pos 1) ∷ (r ∷ (denied_goal (negsuc 0) ∷ []))))
 
@@ -133,12 +133,12 @@ rows_of_halves : (rows_of gap (half (pos 0) true) true ≡ Some (rows_with (of_x
 unfolding gap number twice_x of_both first_question second_question third_question all_hold half yes row of_x of_y denied_goal rows_with whole is_sized fits ratio gcd gcd_steps minus plus scaled minus_oneʳ is_zeroʳ zeroʳ oneʳ ◌+ʳ◌ ◌*ʳ◌ leqʳ tightened factor common_multiple common_divisor floorʳ ceilʳ product_fits
 rows_of_halves = (refl, refl, refl)
 
--- where one fails, 1 < 1 denies the goal
+-- If one of them fails, `1 < 1` denies the goal.
 rows_where_one_fails : (rows_of gap third_fails true ≡ Some (row (negsuc 1) (pos 1) (pos 0) ∷ (row (pos 2) (pos 1) (negsuc 1) ∷ (of_y (pos 1) (pos 0) ∷ (denied_goal (pos 0) ∷ []))))) × (rows_of gap second_fails true ≡ Some (row (negsuc 1) (pos 1) (pos 0) ∷ (row (negsuc 1) (negsuc 0) (pos 3) ∷ (denied_goal (pos 0) ∷ [])))) × (rows_of gap first_fails true ≡ Some (row (pos 2) (negsuc 0) (pos 1) ∷ (denied_goal (pos 0) ∷ [])))
 unfolding gap number twice_x of_both first_question second_question third_question third_fails second_fails first_fails yes no row of_y denied_goal whole is_sized fits ratio gcd gcd_steps minus plus scaled minus_oneʳ is_zeroʳ zeroʳ oneʳ ◌+ʳ◌ ◌*ʳ◌ leqʳ tightened factor common_multiple common_divisor floorʳ ceilʳ product_fits
 rows_where_one_fails = (refl, refl, refl)
 
--- ---- The row 0 < 0 is a contradiction by itself
+-- ---- The row `0 < 0` is itself a contradiction
 
 absurd_row : Row
 absurd_row = denied_goal (pos 0)
@@ -178,7 +178,7 @@ by_itself n rows l e = record {
 
 -- ---- Three rows that add up to 1 <= 0
 
--- the partial sums of three numbers
+-- The partial sums of three numbers.
 three : ℤ → ℤ → ℤ → ℕ → ℤ
 three a b c zero = pos 0
 three a b c (suc zero) = a +ℤ pos 0
@@ -200,7 +200,7 @@ three_small a b c h i j (suc zero) = omega (arith, ints)
 three_small a b c h i j (suc (suc zero)) = omega (arith, ints)
 three_small a b c h i j (suc (suc (suc k))) = omega (arith, ints)
 
--- what the three rows are: their numbers are small, the variables' add up to 0, and the constants to 1
+-- The three rows have small numbers, the coefficients add up to 0, and the constants to 1.
 record AddUp (i : ℕ) (rows : List Row) : Type 0 where
   long : length rows ≡ 5
   first : i < 2
@@ -221,7 +221,7 @@ together i rows h = let l = h.long in let f = h.first in record {
   false_constant = inl (subst (λ z. pos 0 <ℤ z) (sym (three_sums (λ r. r.rest) i 3 rows 3 ∙ h.one)) (omega (arith, ints)));
 }
 
--- y - 2x, 1 - y and twice x
+-- y - 2x, 1 - y and twice x.
 where_at_most_zero : AddUp 0 (rows_with (of_x (pos 1) (pos 0)))
 unfolding rows_with row of_x of_y denied_goal coefficient three
 where_at_most_zero = record {
@@ -245,7 +245,7 @@ where_at_most_zero = record {
     none false true = refl
     none false false = refl
 
--- 2x + y - 2, 1 - y and twice 1 - x
+-- 2x + y - 2, 1 - y and twice 1 - x.
 where_at_least_one : AddUp 1 (rows_with (of_x (negsuc 0) (pos 1)))
 unfolding rows_with row of_x of_y denied_goal coefficient three
 where_at_least_one = record {
@@ -318,7 +318,7 @@ gap_is_certified : IsAccepted gap [] (certificate (pos 0))
 unfolding certificate split_tree all_hold half third_fails second_fails first_fails yes no
 gap_is_certified = IsAccepted.split [] first_question _ _ asks_first (IsAccepted.split _ second_question _ _ asks_second (IsAccepted.split _ third_question _ _ asks_third (IsAccepted.whole _ 0 (pos 0) _ _ x_splits (IsAccepted.farkas _ _ refuted_halves.0) (IsAccepted.farkas _ _ refuted_halves.1)) (IsAccepted.farkas _ _ refuted_fronts.0)) (IsAccepted.farkas _ _ refuted_fronts.1)) (IsAccepted.farkas _ _ refuted_fronts.2)
 
--- y - 2x, 1 - y and twice x - 1 add up to -1 <= 0
+-- y - 2x, 1 - y and twice x - 1 add up to -1 <= 0.
 sum_at_one : combined (λ r. r.rest) (multipliers 0) (rows_with (of_x (pos 1) (negsuc 0))) ≡ negsuc 0
 unfolding combined multipliers rows_with row of_x of_y denied_goal
 sum_at_one = refl
@@ -338,3 +338,55 @@ not_refuted_at_one h = go h.rows (sym h.are_rows ∙ ap (rows_of gap (half (pos 
 gap_is_refused_at_one : IsRefused gap [] (certificate (pos 1)) (true ∷ (true ∷ (true ∷ (true ∷ []))))
 unfolding certificate split_tree all_hold half yes
 gap_is_refused_at_one = IsRefused.first [] first_question _ _ _ asks_first (IsRefused.first _ second_question _ _ _ asks_second (IsRefused.first _ third_question _ _ _ asks_third (IsRefused.first_half _ 0 (pos 1) _ _ _ x_splits (IsRefused.no_contradiction (half (pos 1) true) (multipliers 0) not_refuted_at_one))))
+
+-- ---- A tree whose second half is refused
+
+-- A plain leaf in place of multipliers.
+refused_plain_half : IsRefused gap (half (pos 0) false) Tree.plain (true ∷ true ∷ true ∷ false ∷ [])
+unfolding all_hold half yes
+refused_plain_half =
+    let not_plain = not_plain_in (half (pos 0) false) _ _ (ends_where_all_hold (pos 0) false).1 in
+    IsRefused.not_plain (half (pos 0) false) not_plain
+
+-- The second half of a split is refused where the first is accepted.
+wrong_split : Tree
+wrong_split = Tree.whole 0 (pos 0) (Tree.farkas (multipliers 0)) Tree.plain
+
+refused_second_half : IsRefused gap all_hold wrong_split (true ∷ true ∷ true ∷ false ∷ [])
+unfolding half wrong_split
+refused_second_half =
+    IsRefused.second_half all_hold 0 (pos 0) _ _ _ x_splits
+    (IsAccepted.farkas _ _ refuted_halves.0) refused_plain_half
+
+-- The certificate with the wrong second half.
+wrong_half : Tree
+wrong_half =
+    Tree.split
+    (Tree.split (Tree.split wrong_split (Tree.farkas ((3, 1) ∷ []))) (Tree.farkas ((2, 1) ∷ [])))
+    (Tree.farkas ((1, 1) ∷ []))
+
+gap_is_refused_in_the_second_half : IsRefused gap [] wrong_half (true ∷ true ∷ true ∷ false ∷ [])
+unfolding wrong_half all_hold yes
+gap_is_refused_in_the_second_half =
+    IsRefused.first [] first_question _ _ _ asks_first
+    (IsRefused.first _ second_question _ _ _ asks_second
+    (IsRefused.first _ third_question _ _ _ asks_third refused_second_half))
+
+-- A plain leaf in the last branch, after a first branch that is accepted.
+wrong_last : Tree
+wrong_last =
+    Tree.split
+    (Tree.split (Tree.split (split_tree (pos 0)) (Tree.farkas ((3, 1) ∷ []))) (Tree.farkas ((2, 1) ∷ [])))
+    Tree.plain
+
+gap_is_refused_in_the_last_branch : IsRefused gap [] wrong_last (false ∷ [])
+unfolding wrong_last split_tree all_hold half third_fails second_fails first_fails yes no
+gap_is_refused_in_the_last_branch =
+    IsRefused.second [] first_question _ _ _ asks_first
+    (IsAccepted.split _ second_question _ _ asks_second
+    (IsAccepted.split _ third_question _ _ asks_third
+    (IsAccepted.whole _ 0 (pos 0) _ _ x_splits
+    (IsAccepted.farkas _ _ refuted_halves.0) (IsAccepted.farkas _ _ refuted_halves.1))
+    (IsAccepted.farkas _ _ refuted_fronts.0))
+    (IsAccepted.farkas _ _ refuted_fronts.1))
+    (IsRefused.not_plain first_fails (not_plain_in first_fails _ _ ends_where_one_fails.2))

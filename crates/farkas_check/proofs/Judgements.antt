@@ -1,4 +1,4 @@
--- What the walk through a tree finds at its nodes.
+-- The results of the walk through a tree at its nodes.
 use Rattle.std.proofs.Common.{◌≡◌, ℕ, List, [], ◌+◌, ◌*◌, ◌<◌, inl, inr, refl, sym, ap, ◌∙◌, subst, arith, Bool, true, false}
 use Rattle.std.specs.Prelude.{ℤ, Option, Some, None, Result, Ok, Err, IfOk, map}
 use Rattle.std.specs.declared.boxed.Box.{Box}
@@ -44,7 +44,7 @@ plain_tree = ap tree_of (sym K.TheVariants.rolls-Plain) ∙ fold-roll-Tree Tree 
 whole_tree : (x : ℕ) (m : ℤ) (a b : Box K.Tree Global) → tree_of (K.TheVariants.Whole x m a b) ≡ Tree.whole x m (tree_of a.value) (tree_of b.value)
 whole_tree x m a b = ap tree_of (sym (K.TheVariants.rolls-Whole x m a b)) ∙ fold-roll-Tree Tree tree_layer (Tree-F.Whole x m a b) ∙ refl
 
--- ---- What stands at the end of the trail
+-- ---- The end of the trail
 
 pub asked : (g : Goal) (now items : List T.Taken) (q : A.Atom) (k : Q.Ask) → Answers k (end_at g (path_of now)) → now ≡ items → k ≡ Q.TheVariants.Decide q → Asks g (path_of items) (atom_of q)
 asked g now items q k h e i = subst (λ ps. Asks g (path_of ps) (atom_of q)) e (go (end_at g (path_of now)) refl (subst (λ (k : Q.Ask). Answers k (end_at g (path_of now))) i h))
@@ -60,7 +60,6 @@ ended_unasked g now items x y k h e i q a = subst (Answers (Q.TheVariants.End x 
 pub bits_unasked : (g : Goal) (now items : List T.Taken) (k : Q.Ask) → Answers k (end_at g (path_of now)) → now ≡ items → k ≡ Q.TheVariants.Bits → (q : Atom) → Asks g (path_of items) q → ⊥
 bits_unasked g now items k h e i q a = subst (Answers Q.TheVariants.Bits) (ap (λ ps. end_at g (path_of ps)) e ∙ a.question) (subst (λ (k : Q.Ask). Answers k (end_at g (path_of now))) i h)
 
--- the path goes on with each answer
 pub question_onto : (g : Goal) (items : List T.Taken) (q : A.Atom) → IsPath g (path_of items) → Asks g (path_of items) (atom_of q) → (held : Bool) → IsPath g (onto (path_of items) (atom_of q) held)
 question_onto g items q p a held = asked_onto g (path_of items) (atom_of q) held p a
 
@@ -111,29 +110,26 @@ plain_found g now s t k h e = (same_trail s, subst (IsAccepted g (path_of s.path
 pub multipliers_found : {E : Type 0} (r : Result J.Judged E) (g : Goal) (s : Trail) (t : K.Tree) (ms : Vec (ℕ × ℕ) Global) (ns : List (ℕ × ℕ)) → t ≡ K.TheVariants.Farkas ms → ns ≡ ms.items → IfOk r (IsJudgement g s (Tree.farkas ns)) → IfOk r (IsJudgement g s (tree_of t))
 multipliers_found r g s t ms ns k e h = subst (λ u. IfOk r (IsJudgement g s u)) (sym (ap tree_of k ∙ farkas_tree ms ∙ ap Tree.farkas (sym e))) h
 
--- the answers' rows aren't all there
 pub unstated_here : {E : Type 0} (r : Result J.Judged E) (g : Goal) (now : List T.Taken) (s : Trail) (ms : List (ℕ × ℕ)) → IsTrail g s → s.stated ≡ false → now ≡ s.path.items → IfOk r (IsRefusedAt now) → IfOk r (IsJudgement g s (Tree.farkas ms))
 unstated_here r g now s ms h f e k = refused_here r g now s (Tree.farkas ms) (IsRefused.no_contradiction (path_of s.path.items) ms (none_refuted g s ms h f)) e k
 
--- the denied goal has no row
 pub no_rows_here : {E : Type 0} (r : Result J.Judged E) (g : Goal) (now : List T.Taken) (s : Trail) (ms : List (ℕ × ℕ)) → rows_of g (path_of s.path.items) (has_denied g (path_of s.path.items)) ≡ None → now ≡ s.path.items → IfOk r (IsRefusedAt now) → IfOk r (IsJudgement g s (Tree.farkas ms))
 no_rows_here r g now s ms n e k = refused_here r g now s (Tree.farkas ms) (IsRefused.no_contradiction (path_of s.path.items) ms (λ c. let i = sym c.are_rows ∙ n in absurd (cc))) e k
 
 pub unrefuted_here : {E : Type 0} (r : Result J.Judged E) (g : Goal) (now : List T.Taken) (s : Trail) (rows : List Row) (ms : List (ℕ × ℕ)) → rows_of g (path_of s.path.items) (has_denied g (path_of s.path.items)) ≡ Some rows → (IsContradiction ms rows → ⊥) → now ≡ s.path.items → IfOk r (IsRefusedAt now) → IfOk r (IsJudgement g s (Tree.farkas ms))
 unrefuted_here r g now s rows ms a n e k = refused_here r g now s (Tree.farkas ms) (IsRefused.no_contradiction (path_of s.path.items) ms (λ c. let o : Some c.rows ≡ Some rows = sym c.are_rows ∙ a in let same : c.rows ≡ rows = cc in n (subst (IsContradiction ms) same c.contradiction))) e k
 
--- the trail that is given back has its first rows again
 pub refuted_here : (g : Goal) (s back : Trail) (rows : List Row) (ms : List (ℕ × ℕ)) → rows_of g (path_of s.path.items) (has_denied g (path_of s.path.items)) ≡ Some rows → IsContradiction ms rows → IsSame s back → IsSame s back × IsAccepted g (path_of s.path.items) (Tree.farkas ms)
 refuted_here g s back rows ms a c h = (h, IsAccepted.farkas (path_of s.path.items) ms (record { rows = rows; are_rows = a; contradiction = c }))
 
--- ---- Before the first question
+-- ---- Before the first comparison
 
 pub at_start : {E : Type 0} (r : Result J.Judged E) (g : Goal) (s : Trail) (t : Tree) → s.path.items ≡ [] → IfOk r (IsJudgement g s t) → IfOk r (IsFindingAtStart g t)
 at_start (Ok (J.TheVariants.Accepted back)) g s t e h = subst (λ (ps : List T.Taken). IsAccepted g (path_of ps) t) e h.1
 at_start (Ok (J.TheVariants.Refused place)) g s t e h = subst (λ (ps : List T.Taken). IsRefused g (path_of ps) t place.items) e h
 at_start (Err x) g s t e h = h
 
--- ---- The tree gets lower
+-- ---- The tree becomes lower
 
 abbrev pub height : Tree → ℕ
 height (Tree.split t u) = height t + height u + 1

@@ -1,4 +1,4 @@
--- What the answers at the end of a path say of splits and of the denied goal.
+-- The end of a path, and whether it allows splits and has a denied goal.
 use Rattle.std.proofs.Common.{◌≡◌, ℕ, List, refl, sym, ap, ◌∙◌, subst, Bool, true, false, not, ◌&&◌}
 use Rattle.std.specs.Prelude.{Option, Some, None, is_some, is_none, IsTrue, ◌↔◌}
 use Rattle.heylo_formula.specs.Goals.{Goal}
@@ -19,7 +19,6 @@ use Rattle.linear_form.specs.declared.questions.Ask as Q
 use Rattle.linear_form.specs.declared.paths.Atom as A
 use Rattle.farkas_check.specs.AcceptedCertificates.{CanSplit, has_denied}
 
--- the values at an end
 pub ended : (g : Goal) (ps : List Taken) (x y : Option Lin) → Answers (Q.TheVariants.End x y) (end_at g ps) → end_at g ps ≡ done (linear_of x, linear_of y)
 ended g ps x y h = go (end_at g ps) refl h
   where

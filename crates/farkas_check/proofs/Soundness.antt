@@ -1,4 +1,4 @@
--- A goal with a certificate holds in every state.
+-- A goal with a certificate holds in each state.
 use Rattle.std.proofs.Common.{◌≡◌, List, [], refl, sym, ◌∙◌, subst, Bool, true, false, ◌⊎◌, inl, inr}
 use Rattle.std.specs.Prelude.{Some, None}
 use Rattle.std.specs.List.{All}
@@ -42,7 +42,6 @@ pub holds_or : (up : Bool) (v w : Value) → Compares up v w ⊎ (Compares up v 
 holds_or true v w = order_or w v
 holds_or false v w = order_or v w
 
--- Where nothing denies the goal, the side that would have to be smaller is infinite.
 none_below : (x y : Linear) → below_claim x y ≡ None → x ≡ None
 none_below (Some a) (Some b) e = absurd (cc)
 none_below (Some a) None e = absurd (cc)
@@ -52,7 +51,6 @@ pub plain_holds : (up : Bool) (e : Ends) (s : Env) → denial up e ≡ None → 
 plain_holds true e s h = subst (λ x. value_in e.1 s ≤ᵛ value_in x s) (sym (none_below e.0 e.1 h)) (at_most_infinite (value_in e.1 s))
 plain_holds false e s h = subst (λ x. value_in e.0 s ≤ᵛ value_in x s) (sym (none_below e.1 e.0 h)) (at_most_infinite (value_in e.0 s))
 
--- the rows of which a certificate speaks are met where the goal fails
 rows_met : (g : Goal) (s : List Val) (ps : List Taken) (denied : Bool) (rows : List Row) → IsTypedGoal g → IsTyped g.types s → IsPath g ps → Agrees (environment s) ps → (HoldsIn g (environment s) → ⊥) → rows_of g ps denied ≡ Some rows → All (MeetsAt (λ x. number_of (environment s x))) rows
 rows_met g s ps true rows w t p a n e = denied_rows_are_met g s ps rows w t p a n e
 rows_met g s ps false rows w t p a n e = rows_are_met g s ps rows t p a e

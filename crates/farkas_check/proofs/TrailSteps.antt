@@ -1,4 +1,4 @@
--- Trails that go on with an answer and come back.
+-- Trails with one more answer, and without it again.
 use Rattle.std.proofs.Common.{◌≡◌, ℕ, List, [], ◌∷◌, ◌++◌, take, length, refl, sym, ap, ap₂, ◌∙◌, subst, arith, Bool, true, false}
 use Rattle.std.specs.Prelude.{Option, Some, None}
 use Rattle.std.specs.declared.alloc.Global.{Global}
@@ -30,7 +30,6 @@ path_of-append ps p = map-append taken_of ps (p ∷ [])
 
 -- ---- One more answer
 
--- the rows of a trail with one more answer, whose own rows these are
 lost_longer : (g : Goal) (before t : Trail) (p : T.Taken) → t.path.items ≡ before.path.items ++ p ∷ [] → all_tightened (types_in g.types) (path_claims (onto (path_of before.path.items) (atom_of p.atom) p.held)) ≡ None → t.stated ≡ false → IsStated g (path_of t.path.items) t.rows.items t.stated
 lost_longer g before t p e h f = subst (IsStated g (path_of t.path.items) t.rows.items) (sym f) (ap (λ ps. all_tightened (types_in g.types) (path_claims ps)) (ap path_of e ∙ path_of-append before.path.items p) ∙ h)
 
@@ -61,7 +60,7 @@ more_stated g before t items p list more h f l i b e r k = record {
 pub longer_path : (g : Goal) (before : Trail) (items : List T.Taken) (p : T.Taken) → items ≡ before.path.items ++ p ∷ [] → IsPath g (onto (path_of before.path.items) (atom_of p.atom) p.held) → IsPath g (path_of items)
 longer_path g before items p e h = subst (IsPath g) (sym (ap path_of e ∙ path_of-append before.path.items p)) h
 
--- ---- The trail that goes on, and the trail that comes back
+-- ---- The longer trail, and the trail that is returned
 
 pub longer_trail : (g : Goal) (before t : Trail) (p : T.Taken) → IsLonger g before p t → IsPath g (onto (path_of before.path.items) (atom_of p.atom) p.held) → IsTrail g t
 longer_trail g before t p l h = record { path = longer_path g before t.path.items p l.path h; rows = l.rows }
@@ -78,11 +77,9 @@ same_again s t u h k = record { path = k.path ∙ h.path; rows = k.rows ∙ h.ro
 pub same_stated : (g : Goal) (s t : Trail) → IsSame s t → IsStated g (path_of s.path.items) s.rows.items s.stated → IsStated g (path_of t.path.items) t.rows.items t.stated
 same_stated g s t h k = subst (λ ps. IsStated g (path_of ps) t.rows.items t.stated) (sym h.path) (subst (λ rows. IsStated g (path_of s.path.items) rows t.stated) (sym h.rows) (subst (IsStated g (path_of s.path.items) s.rows.items) (sym h.stated) k))
 
--- the other answer to the question, copied, at the trail that came back
 pub again_onto : (g : Goal) (s here : Trail) (q r : A.Atom) → IsSame s here → atom_of r ≡ atom_of q → ((held : Bool) → IsPath g (onto (path_of s.path.items) (atom_of q) held)) → IsPath g (onto (path_of here.path.items) (atom_of r) false)
 again_onto g s here q r h e a = subst (λ k. IsPath g (onto (path_of here.path.items) k false)) (sym e) (subst (λ ps. IsPath g (onto (path_of ps) (atom_of q) false)) (sym h.path) (a false))
 
--- the path and the place, where the program looks at them
 pub path_here : (g : Goal) (now : List T.Taken) (s : Trail) → now ≡ s.path.items → IsTrail g s → IsPath g (path_of now)
 path_here g now s e h = subst (λ ps. IsPath g (path_of ps)) (sym e) h.path
 
@@ -95,18 +92,16 @@ place_back g now s p e h = subst (λ ps. IsOn g (path_of ps) p) e h
 pub split_here : (g : Goal) (now : List T.Taken) (s : Trail) (x : ℕ) → now ≡ s.path.items → CanSplit g (path_of now) x → CanSplit g (path_of s.path.items) x
 split_here g now s x e h = subst (λ ps. CanSplit g (path_of ps) x) e h
 
--- what is said behind an answer to the trail that came back is said behind one to the first
 pub behind : (P : List Taken → Type 0) (s here t : Trail) (g : Goal) (p : T.Taken) → IsLonger g here p t → IsSame s here → P (path_of t.path.items) → P (onto (path_of s.path.items) (atom_of p.atom) p.held)
 behind P s here t g p l h k = subst (λ ps. P (onto (path_of ps) (atom_of p.atom) p.held)) h.path (subst P (ap path_of l.path ∙ path_of-append here.path.items p) k)
 
--- the same of the other answer, to the question copied
 pub behind_again : (P : List Taken → Type 0) (s here t : Trail) (g : Goal) (q r : A.Atom) → IsLonger g here (record { atom = r; held = false }) t → IsSame s here → atom_of r ≡ atom_of q → P (path_of t.path.items) → P (onto (path_of s.path.items) (atom_of q) false)
 behind_again P s here t g q r l h e k = subst (λ a. P (onto (path_of s.path.items) a false)) e (behind P s here t g (record { atom = r; held = false }) l h k)
 
 pub same_place : (g : Goal) (s t : Trail) (p : Place) → IsSame s t → IsOn g (path_of s.path.items) p → IsOn g (path_of t.path.items) p
 same_place g s t p h k = subst (λ ps. IsOn g (path_of ps) p) (sym h.path) k
 
--- ---- Before the first question
+-- ---- Before the first comparison
 
 pub first_trail : (g : Goal) (s : Trail) → s.path.items ≡ [] → s.rows.items ≡ [] → s.stated ≡ true → IsTrail g s
 first_trail g s e f h = record {

@@ -1,4 +1,4 @@
--- What is proved of certificates.
+-- Laws of certificates.
 use Rattle.std.specs.Prelude.{◌≡◌, List, Bool}
 use Rattle.heylo_formula.specs.Goals.{Goal, Holds}
 use Rattle.heylo_formula.specs.TypedGoals.{IsTypedGoal}
@@ -7,12 +7,14 @@ use Rattle.farkas_check.specs.AcceptedCertificates.{IsCertificate, IsNoCertifica
 
 -- No tree is both accepted and refused.
 abbrev pub NeverBoth : Type 0
-NeverBoth = (g : Goal) (t : Tree) (place : List Bool) → IsCertificate g t → IsNoCertificate g t place → ⊥
+NeverBoth = (g : Goal) (t : Tree) (place : List Bool) → IsCertificate g t
+    → IsNoCertificate g t place → ⊥
 
 -- A tree is refused at one place.
 abbrev pub OnePlace : Type 0
-OnePlace = (g : Goal) (t : Tree) (p r : List Bool) → IsNoCertificate g t p → IsNoCertificate g t r → p ≡ r
+OnePlace = (g : Goal) (t : Tree) (p r : List Bool) → IsNoCertificate g t p → IsNoCertificate g t r
+    → p ≡ r
 
--- A goal with a certificate holds in every state.
+-- A goal with a certificate holds in each state.
 abbrev pub CertifiedGoalsHold : Type 0
 CertifiedGoalsHold = (g : Goal) (t : Tree) → IsTypedGoal g → IsCertificate g t → Holds g

@@ -11,7 +11,8 @@ ghost use Rattle.goal_answers.specs.Trees.{Tree as PlainTree, tree_of};
 ghost use Rattle.farkas_check.specs.AcceptedCertificates.{IsCertificate, IsNoCertificate};
 ghost use Rattle.farkas_check.specs.Verdicts.{IsNoAt};
 ghost use Rattle.farkas_check.specs.internal.Trails.{IsTrail};
-ghost use Rattle.farkas_check.specs.internal.Findings.{IsJudgement, IsFindingAtStart, AreFindings, IsRefusedAt};
+ghost use Rattle.farkas_check.specs.internal.Findings.{IsJudgement, IsFindingAtStart, AreFindings};
+ghost use Rattle.farkas_check.specs.internal.Findings.{IsRefusedAt};
 
 use crate::ends::{can_split, is_plain_at, rows_there};
 use crate::trail::{Trail, copy_atom, further, shorter};
@@ -21,28 +22,29 @@ use linear_form::{Ask, Atom, Place, Reached, RowList, Taken, begin, go_on, nonli
 use linear_rows::contradicts;
 use std::alloc::{AllocError, Global};
 
-/// What is found of a tree at the end of a path: it is accepted, with the trail given back, or refused at a place.
+/// The result on a tree at the end of a path: it is accepted, and the trail is returned, or refused
+/// at a node, with the answers on the way to it.
 #[derive(Drop)]
 enum Judged {
     Accepted(Trail),
     Refused(Vec<bool>),
 }
 
-/// The answers on the way to a node that is refused.
+/// Returns the answers of `path`.
 fn answers_of(alloc: Global, path: &[Taken]) -> Result<Vec<bool>, AllocError>
     ensures { IfOk result (λ v. v.items ≡ map (λ p. p.held) path.now) }
 {
     path.iter().map(|taken| taken.held).collect(alloc)
 }
 
-/// The tree is refused at the end of the path.
+/// Refuses a tree at the end of `path`.
 fn refused_at(alloc: Global, path: &[Taken]) -> Result<Judged, AllocError>
     ensures { IfOk result (IsRefusedAt path.now) }
 {
     Ok(Judged::Refused(answers_of(alloc, path)?))
 }
 
-/// What is found of multipliers at the end of the trail.
+/// Judges multipliers at the end of `trail`.
 fn judge_multipliers(
     alloc: Global,
     goal: &Goal,
@@ -52,7 +54,8 @@ fn judge_multipliers(
 ) -> Result<Judged, AllocError>
     requires trail { IsTrail (goal_of goal.now) trail }
     requires on { IsOn (goal_of goal.now) (path_of trail.path.items) place.now }
-    ensures { IfOk result (IsJudgement (goal_of goal.now) trail (PlainTree.farkas multipliers.now)) }
+    ensures { IfOk result (IsJudgement (goal_of goal.now) trail
+        (PlainTree.farkas multipliers.now)) }
 {
     if !trail.stated {
         return refused_at(alloc, &trail.path);
@@ -80,7 +83,8 @@ fn judge_multipliers(
     }
 }
 
-/// Goes through the tree from the end of the trail, in the order of the text, where the evaluation stands at a place on the path.
+/// Walks through `tree` from the end of `trail`, in the order of the text; `place` is an evaluation
+/// on its path.
 #[cycle(judging)]
 fn judge(
     alloc: Global,
@@ -121,7 +125,7 @@ fn judge(
     }
 }
 
-/// Goes through the two trees from the two answers to a question, or to a split, at the end of the trail.
+/// Walks through the two trees after the answers to a comparison or a split at the end of `trail`.
 #[cycle(judging)]
 fn judge_both(
     alloc: Global,
@@ -134,8 +138,10 @@ fn judge_both(
 ) -> Result<Judged, AllocError>
     requires trail { IsTrail (goal_of goal.now) trail }
     requires on { IsOn (goal_of goal.now) (path_of trail.path.items) place.now }
-    requires answers { (held : Bool) → IsPath (goal_of goal.now) (onto (path_of trail.path.items) (atom_of atom) held) }
-    ensures { IfOk result (AreFindings (goal_of goal.now) trail (atom_of atom) (tree_of first.now) (tree_of second.now)) }
+    requires answers { (held : Bool)
+        → IsPath (goal_of goal.now) (onto (path_of trail.path.items) (atom_of atom) held) }
+    ensures { IfOk result (AreFindings (goal_of goal.now) trail (atom_of atom) (tree_of first.now)
+        (tree_of second.now)) }
 {
     let count = trail.rows.len();
     let stated = trail.stated;
@@ -158,7 +164,7 @@ fn judge_both(
     }
 }
 
-/// Goes through the tree from before the first question.
+/// Walks through `tree` from before the first comparison.
 fn judge_from_start(alloc: Global, goal: &Goal, tree: &Tree) -> Result<Judged, AllocError>
     ensures { IfOk result (IsFindingAtStart (goal_of goal.now) (tree_of tree.now)) }
 {
@@ -171,16 +177,24 @@ fn judge_from_start(alloc: Global, goal: &Goal, tree: &Tree) -> Result<Judged, A
     judge(alloc, goal, &place, trail, tree)
 }
 
-/// Checks a certificate of a goal. Yes is given exactly where each node is what the goal asks for at the end of its path: a
-/// split where there is a question; multipliers that combine the rows of the path to a contradiction (Farkas); a plain leaf
-/// at an end at which the goal holds plainly; at an end at which it doesn't, where the denied goal is among the rows, an Int or UInt
-/// of the goal that is at most a whole number or at least the next one. A well-typed goal with a Yes holds in every state. Else No
-/// is given, with the answers on the way to the first node, in the order of the text, that isn't such. A goal with a product of two
-/// numeric parts is refused at the root, whatever the tree. Want of memory is the one error.
+/// Checks a certificate of a goal. Returns `Yes` exactly if each node is one that the goal allows
+/// at the end of its path:
+///
+/// - a split, if there is a next comparison;
+/// - multipliers that combine the rows of the path to a contradiction;
+/// - a plain leaf, at an end at which the goal holds trivially;
+/// - a split of an `Int` or `UInt` variable of the goal, at an end at which it does not.
+///
+/// Otherwise returns `No` with the answers on the way to the first other node, in the order of the
+/// text. A goal with a nonlinear product is refused at the root. A typed goal with a certificate
+/// holds in each state.
 pub fn check(alloc: Global, goal: &Goal, tree: &Tree) -> Result<Checked, AllocError>
-    ensures yes { IfOk result (λ c. (c ≡ Checked.Yes) ↔ IsCertificate (goal_of goal.now) (tree_of tree.now)) }
-    ensures no { IfOk result (λ c. (place : List Bool) → IsNoAt c place ↔ IsNoCertificate (goal_of goal.now) (tree_of tree.now) place) }
-    ensures holds { IsTypedGoal (goal_of goal.now) → IfOk result (λ c. c ≡ Checked.Yes → Holds (goal_of goal.now)) }
+    ensures yes { IfOk result (λ c. (c ≡ Checked.Yes)
+        ↔ IsCertificate (goal_of goal.now) (tree_of tree.now)) }
+    ensures no { IfOk result (λ c. (place : List Bool) → IsNoAt c place
+        ↔ IsNoCertificate (goal_of goal.now) (tree_of tree.now) place) }
+    ensures holds { IsTypedGoal (goal_of goal.now)
+        → IfOk result (λ c. c ≡ Checked.Yes → Holds (goal_of goal.now)) }
 {
     match nonlinear(goal) {
         Some(_) => Ok(Checked::No(Vec::new(alloc))),

@@ -1,4 +1,4 @@
-//! What stands at the end of a trail.
+//! The end of a trail.
 
 ghost use Rattle.std.specs.Prelude.{◌≡◌, ◌↔◌, Bool, IsTrue, IfOk, false};
 ghost use Rattle.heylo_formula.specs.Goals.{goal_of};
@@ -19,7 +19,7 @@ use linear_form::{
 use linear_rows::{Occurrences, Row};
 use std::alloc::{AllocError, Global};
 
-/// What stands at the end of the path, evaluated on from a place on it. Want of memory is the one error.
+/// Returns what is at the end of `path`, evaluated from `place`.
 pub fn ask_there(
     alloc: Global,
     goal: &Goal,
@@ -34,7 +34,7 @@ pub fn ask_there(
     Ok(ask)
 }
 
-/// Whether the path is at an end at which the goal holds plainly. Want of memory is the one error.
+/// Returns whether `path` is at an end at which the goal holds trivially.
 pub fn is_plain_at(
     alloc: Global,
     goal: &Goal,
@@ -51,7 +51,7 @@ pub fn is_plain_at(
     }
 }
 
-/// Whether the variable is of type Int or UInt.
+/// Returns whether `variable` is of type `Int` or `UInt`.
 fn is_whole(types: &[Ty], variable: u32) -> bool
     ensures { result ≡ is_integral (types_in types.now variable) }
 {
@@ -64,8 +64,8 @@ fn is_whole(types: &[Ty], variable: u32) -> bool
     }
 }
 
-/// Whether the path is at an end at which the goal doesn't hold plainly, and the variable is an Int or UInt of the goal. Want of
-/// memory is the one error.
+/// Returns whether `path` is at an end at which the goal does not hold trivially, and `variable` is
+/// an `Int` or `UInt` of the goal.
 pub fn can_split(
     alloc: Global,
     goal: &Goal,
@@ -75,7 +75,8 @@ pub fn can_split(
 ) -> Result<bool, AllocError>
     requires path { IsPath (goal_of goal.now) (path_of path.now) }
     requires on { IsOn (goal_of goal.now) (path_of path.now) place.now }
-    ensures { IfOk result (λ b. IsTrue b ↔ CanSplit (goal_of goal.now) (path_of path.now) variable) }
+    ensures { IfOk result (λ b. IsTrue b
+        ↔ CanSplit (goal_of goal.now) (path_of path.now) variable) }
 {
     match ask_there(alloc, goal, place, path)? {
         Ask::Decide(_) => Ok(false),
@@ -90,7 +91,7 @@ pub fn can_split(
     }
 }
 
-/// The rows of the path without the denied goal, from those of its comparisons. Want of memory is the one error.
+/// Returns the rows of `path` without the denied goal; `rows` are those of its answers.
 fn with_signs(
     alloc: Global,
     goal: &Goal,
@@ -99,7 +100,8 @@ fn with_signs(
 ) -> Result<RowList, AllocError>
     requires path { IsPath (goal_of goal.now) (path_of path.now) }
     requires rows { ArePathRows (goal_of goal.now) (path_of path.now) rows.items }
-    ensures rows { IfOk result (λ r. Lists r (rows_of (goal_of goal.now) (path_of path.now) false)) }
+    ensures rows { IfOk result
+        (λ r. Lists r (rows_of (goal_of goal.now) (path_of path.now) false)) }
     ensures normal { IfOk result (λ r. AreRows r) }
     ensures first { IfOk result (λ r. StartsWith rows.items r) }
 {
@@ -108,8 +110,8 @@ fn with_signs(
     with_signs_of_path(alloc, goal, path, rows, &occurrences)
 }
 
-/// The rows of which a certificate speaks at the end of the path, from those of the path's comparisons, which stand first: the
-/// denied goal is among them at an end at which the goal doesn't hold plainly. Want of memory is the one error.
+/// Returns the rows of a certificate at the end of `path`; `rows` are those of its answers, which
+/// come first. At an end at which the goal does not hold trivially, the denied goal is among them.
 pub fn rows_there(
     alloc: Global,
     goal: &Goal,
@@ -120,7 +122,10 @@ pub fn rows_there(
     requires path { IsPath (goal_of goal.now) (path_of path.now) }
     requires on { IsOn (goal_of goal.now) (path_of path.now) place.now }
     requires rows { ArePathRows (goal_of goal.now) (path_of path.now) rows.items }
-    ensures rows { IfOk result (λ r. Lists r (rows_of (goal_of goal.now) (path_of path.now) (has_denied (goal_of goal.now) (path_of path.now)))) }
+    ensures rows { IfOk result
+        (λ r. Lists r
+        (rows_of (goal_of goal.now) (path_of path.now)
+        (has_denied (goal_of goal.now) (path_of path.now)))) }
     ensures normal { IfOk result (λ r. AreRows r) }
     ensures first { IfOk result (λ r. StartsWith rows.items r) }
 {

@@ -1,4 +1,5 @@
-//! The check of certificates: trees that show, question by question, that a goal holds.
+//! The check of certificates: trees that show, comparison by comparison, that a goal holds.
+//! `AllocError` means that memory ran out.
 #![tactic(auto)]
 
 mod checker;

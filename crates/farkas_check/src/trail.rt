@@ -1,4 +1,4 @@
-//! A path through a goal, and the rows that are kept along it.
+//! A path through a goal, with its rows.
 
 ghost use Rattle.std.specs.Prelude.{◌≡◌, ◌++◌, ◌∷◌, List, [], take, IfOk};
 ghost use Rattle.heylo_formula.specs.Goals.{goal_of};
@@ -14,17 +14,17 @@ use linear_rows::Row;
 use linear_values::lin::copy;
 use std::alloc::{AllocError, Global};
 
-/// A path, and the rows of its comparisons.
+/// A path, with the rows of its answers.
 #[derive(Drop)]
 pub struct Trail {
     pub path: Vec<Taken>,
-    /// The rows of the comparisons, in order, up to the first one that has none.
+    /// The rows of the answers, in order, up to the first one that overflows.
     pub rows: Vec<Row>,
-    /// Whether each comparison has its row.
+    /// True if no row overflows.
     pub stated: bool,
 }
 
-/// The question again. Want of memory is the one error.
+/// Returns a copy of `atom`.
 pub fn copy_atom(alloc: Global, atom: &Atom) -> Result<Atom, AllocError>
     ensures { IfOk result (λ a. atom_of a ≡ atom_of atom.now) }
 {
@@ -34,15 +34,17 @@ pub fn copy_atom(alloc: Global, atom: &Atom) -> Result<Atom, AllocError>
     }
 }
 
-/// The trail with one more answer. Want of memory is the one error.
+/// Returns `trail` with one more answer.
 pub fn further(
     alloc: Global,
     goal: &Goal,
     mut trail: Trail,
     answer: Taken,
 ) -> Result<Trail, AllocError>
-    requires path { IsPath (goal_of goal.now) (onto (path_of trail.path.items) (atom_of answer.atom) answer.held) }
-    requires rows { IsStated (goal_of goal.now) (path_of trail.path.items) trail.rows.items trail.stated }
+    requires path { IsPath (goal_of goal.now)
+        (onto (path_of trail.path.items) (atom_of answer.atom) answer.held) }
+    requires rows { IsStated (goal_of goal.now)
+        (path_of trail.path.items) trail.rows.items trail.stated }
     ensures { IfOk result (IsLonger (goal_of goal.now) trail answer) }
 {
     trail.path.push(answer)?;
@@ -61,9 +63,11 @@ pub fn further(
     }
 }
 
-/// The trail without its last answer, where it had this many rows before, and each comparison had its row or not.
+/// Returns `trail` without its last answer; before this answer it had `count` rows, and the flag
+/// `stated`.
 pub fn shorter(mut trail: Trail, count: usize, stated: bool) -> Trail
-    ensures path { (before : List TakenValue) (last : TakenValue) → trail.path.items ≡ before ++ last ∷ [] → result.path.items ≡ before }
+    ensures path { (before : List TakenValue) (last : TakenValue)
+        → trail.path.items ≡ before ++ last ∷ [] → result.path.items ≡ before }
     ensures rows { result.rows.items ≡ take count trail.rows.items }
     ensures stated { result.stated ≡ stated }
 {

@@ -1,4 +1,4 @@
--- A path through a goal, and the rows that are kept along it.
+-- A path through a goal, with its rows.
 use Rattle.std.specs.Prelude.{◌≡◌, List, [], ◌∷◌, ◌++◌, take, length, Bool, true, false, None}
 use Rattle.heylo_formula.specs.Goals.{Goal}
 use Rattle.heylo_formula.specs.Typing.{types_in}
@@ -12,7 +12,8 @@ use Rattle.linear_form.specs.RowLists.{ArePathRows}
 use Rattle.linear_form.specs.declared.paths.Taken as T
 use Rattle.farkas_check.specs.declared.trail.Trail.{Trail}
 
--- The rows are those of the path's comparisons, or not each of these has one.
+-- `IsStated g ps rows stated`: `rows` are the rows of the answers of the path `ps` or, if `stated`
+-- is false, one of them overflows.
 abbrev pub IsStated : Goal → List Taken → List Row → Bool → Type 0
 IsStated g ps rows true = ArePathRows g ps rows
 IsStated g ps rows false = all_tightened (types_in g.types) (path_claims ps) ≡ None
@@ -21,13 +22,13 @@ pub record IsTrail (g : Goal) (t : Trail) : Type 0 where
   pub path : IsPath g (path_of t.path.items)
   pub rows : IsStated g (path_of t.path.items) t.rows.items t.stated
 
--- The trail goes on with an answer.
+-- `IsLonger g before answer t`: the trail `t` is `before` with one more answer.
 pub record IsLonger (g : Goal) (before : Trail) (answer : T.Taken) (t : Trail) : Type 0 where
   pub path : t.path.items ≡ before.path.items ++ (answer ∷ [])
   pub rows : IsStated g (path_of t.path.items) t.rows.items t.stated
   pub first : take (length before.rows.items) t.rows.items ≡ before.rows.items
 
--- It is the same trail.
+-- `IsSame t back`: the trails `t` and `back` are equal.
 pub record IsSame (t back : Trail) : Type 0 where
   pub path : back.path.items ≡ t.path.items
   pub rows : back.rows.items ≡ t.rows.items

@@ -9,7 +9,7 @@ use Rattle.farkas_check.proofs.TrailSteps.{path_here, place_here, place_back, sp
 use Rattle.farkas_check.proofs.Judgements.{asked, ended_unasked, bits_unasked, question_onto, halves_onto, no_question_here, no_split_here, not_plain_here, split_found, whole_found, plain_found, multipliers_found, same_trail, lower_split, lower_whole, lower_first, lower_second}
 use Rattle.farkas_check.proofs.checker.+judging.Goals as goal
 
--- ---- A question, and what stands behind its answers
+-- ---- A comparison, and the results after its answers
 
 pub judge-go_on-requires-clause-path : goal.judge-go_on-requires-clause-path
 judge-go_on-requires-clause-path t c = path_here (goal_of c.args.goal.now) c.deref.result.now c.args.trail c.deref.ensures.value c.requires.trail
