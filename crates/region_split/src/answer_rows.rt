@@ -1,4 +1,4 @@
-//! The rows of the two answers to a path's next question.
+//! The rows of the two answers to the next comparison of a path.
 
 ghost use Rattle.std.specs.Prelude.{◌≡◌, ◌++◌, ◌∷◌, [], length, Bool, true, IfOk};
 ghost use Rattle.heylo_formula.specs.Goals.{goal_of};
@@ -18,12 +18,12 @@ use linear_form::{Atom, RowList, Taken, next_row, rows as rows_of_path};
 use linear_rows::Row;
 use std::alloc::{AllocError, Global};
 
-/// What an answer's row comes to.
+/// The row of an answer.
 #[derive(Drop)]
 pub enum Answered {
-    /// The question, and the row of the answer. The path and its rows are as they were.
+    /// The comparison and the row of the answer. The path and its rows are unchanged.
     Row(Atom, Row),
-    /// A number of the row is too great. The path is as it was; its rows are gone.
+    /// A number of the row overflows. The path is unchanged; its rows are lost.
     Bits(Atom),
 }
 
@@ -34,18 +34,18 @@ pub struct AnswerRows {
     pub no: Row,
 }
 
-/// The rows of the answers to the next question of a path.
+/// The rows of the answers to the next comparison of a path.
 #[derive(Drop)]
 pub enum Both {
-    /// The question, and the rows. The trail is as it was.
+    /// The comparison and the rows. The trail is unchanged.
     Rows(Atom, AnswerRows),
-    /// A number of the second one is too great. The trail is as it was.
+    /// A number of the second row overflows. The trail is unchanged.
     Lost(Atom),
-    /// A number is too great.
+    /// A number overflows.
     Unknown(Cause),
 }
 
-/// The row of an answer to the next question of a path, which is a comparison. Want of memory is the one error.
+/// Returns the row of an answer to the next comparison of `path`, which is one of numbers.
 fn row_of_answer(
     alloc: Global,
     goal: &Goal,
@@ -56,7 +56,9 @@ fn row_of_answer(
     requires path { IsPath (goal_of goal.now) (path_of path.old.items ++ (taken_of answer ∷ [])) }
     requires rows { ArePathRows (goal_of goal.now) (path_of path.old.items) rows.old.items }
     requires comparison { length (answer_claims (atom_of answer.atom) answer.held) ≡ 1 }
-    ensures { IfOk result (λ a. IsRowAnswer (goal_of goal.now) path.old.items rows.old.items answer path.new.items rows.new.items a) }
+    ensures { IfOk result (λ a.
+        IsRowAnswer (goal_of goal.now) path.old.items rows.old.items answer path.new.items
+        rows.new.items a) }
 {
     path.push(answer)?;
     let before = std::mem::replace(rows, Vec::new(alloc));
@@ -76,8 +78,8 @@ fn row_of_answer(
     }
 }
 
-/// The rows of both answers to the next question of the path at which a trail stands. The question is a comparison. Want of memory
-/// is the one error.
+/// Returns the rows of both answers to the comparison `atom` of numbers, the next one of the path
+/// of `trail`.
 pub fn rows_of_answers(
     alloc: Global,
     goal: &Goal,
@@ -88,7 +90,8 @@ pub fn rows_of_answers(
     requires stands { Stands (goal_of goal.now) trail.old }
     requires goes_on { GoesOn (goal_of goal.now) (path_of trail.old.path.items) (atom_of atom) }
     requires comparison { (held : Bool) → length (answer_claims (atom_of atom) held) ≡ 1 }
-    ensures { IfOk result (λ b. IsBoth (goal_of goal.now) (path_of trail.old.path.items) (atom_of atom) trail.new b) }
+    ensures { IfOk result (λ b.
+        IsBoth (goal_of goal.now) (path_of trail.old.path.items) (atom_of atom) trail.new b) }
 {
     let yes = Taken { atom, held: true };
     match row_of_answer(alloc, goal, &mut trail.path, &mut trail.rows, yes)? {
@@ -97,7 +100,6 @@ pub fn rows_of_answers(
     }
 }
 
-/// The same, once the row of yes is known.
 fn with_no(
     alloc: Global,
     goal: &Goal,
@@ -109,8 +111,11 @@ fn with_no(
     requires stands { Stands (goal_of goal.now) trail.old }
     requires goes_on { GoesOn (goal_of goal.now) (path_of trail.old.path.items) (atom_of atom) }
     requires comparison { (held : Bool) → length (answer_claims (atom_of atom) held) ≡ 1 }
-    requires yes { ArePathRows (goal_of goal.now) (onto (path_of trail.old.path.items) (atom_of atom) true) (trail.old.rows.items ++ (yes ∷ [])) }
-    ensures { IfOk result (λ b. IsBoth (goal_of goal.now) (path_of trail.old.path.items) (atom_of atom) trail.new b) }
+    requires yes { ArePathRows (goal_of goal.now)
+        (onto (path_of trail.old.path.items) (atom_of atom) true)
+        (trail.old.rows.items ++ (yes ∷ [])) }
+    ensures { IfOk result (λ b.
+        IsBoth (goal_of goal.now) (path_of trail.old.path.items) (atom_of atom) trail.new b) }
 {
     let count = trail.rows.len();
     let other = Taken { atom, held: false };

@@ -13,25 +13,27 @@ use goal_answers::Tree;
 use linear_form::Taken;
 use std::alloc::{AllocError, Global};
 
-/// Where the walk stands once it has gone up.
+/// The result of going up.
 #[derive(Drop)]
 pub enum Up {
-    /// At the next path.
+    /// The walk is at the next path.
     Next,
-    /// At the start: all is walked, and this is the whole tree.
+    /// The walk is at the root, and has finished: the whole tree.
     Whole(Option<Tree>),
 }
 
-/// Goes up from a finished path, whose tree this is, and on to the next one: the first branch above whose question was
-/// answered by yes is answered by no, unless the path had answered it before. The other trees are those of the finished branches to
-/// the left. Want of memory is the one error.
+/// Goes up from a finished path, whose tree is `tree`, to the next path: the lowest comparison
+/// above that was answered with yes is answered with no, unless its answer repeats an earlier one.
+/// `trees` are those of the finished branches to the left.
 pub fn climb(
     alloc: Global,
     trail: &mut Trail,
     trees: &mut Vec<Option<Tree>>,
     mut tree: Option<Tree>,
 ) -> Result<Up, AllocError>
-    ensures { (g : PlainGoal) (all : List (List PlainTaken)) → Stands g trail.old → IsAfter g (path_of trail.old.path.items) trees.old.items all tree → IfOk result (λ u. IsUp g (path_of trail.old.path.items) all trail.new trees.new.items u) }
+    ensures { (g : PlainGoal) (all : List (List PlainTaken)) → Stands g trail.old
+        → IsAfter g (path_of trail.old.path.items) trees.old.items all tree
+        → IfOk result (λ u. IsUp g (path_of trail.old.path.items) all trail.new trees.new.items u) }
 {
     'up: loop {
         let answers = trail.path.len();

@@ -1,10 +1,11 @@
-//! The comparisons that a walk has met, by number.
+//! The comparisons of numbers that a walk has asked.
 
 ghost use Rattle.std.specs.Prelude.{◌≡◌, [], List, true, false, IfOk, IfSome};
 ghost use Rattle.heylo_formula.specs.declared.types.Ty.{Ty as PlainTy};
 ghost use Rattle.linear_form.specs.PlainPaths.{atom_of};
 ghost use Rattle.linear_form.specs.Query.{Atom as PlainAtom};
-ghost use Rattle.region_split.specs.internal.KnownComparisons.{AreKnown, IsNumber, IsRecalled, IsRowOf};
+ghost use Rattle.region_split.specs.internal.KnownComparisons.{AreKnown, IsNumber, IsRecalled};
+ghost use Rattle.region_split.specs.internal.KnownComparisons.{IsRowOf};
 
 use crate::answer_rows::AnswerRows;
 use crate::known_comparisons::{Known, Recalled, answer, asks, make_known, row_of};
@@ -16,15 +17,15 @@ use linear_values::Lin;
 use std::alloc::{AllocError, Global};
 use std::marker::Model;
 
-/// The comparisons that a walk has met, with the rows of both answers. Each keeps its number.
+/// The comparisons that a walk has asked, with the rows of both answers. Each keeps its number.
 #[derive(Drop)]
 pub struct Atoms {
     known: Vec<Known>,
-    /// By the number of the first comparison that has a row, the index at which a path has the row. It may be that of an earlier path:
-    /// what stands there is compared.
+    /// By the number of the first comparison with the same row: the index of this row on a path.
+    /// The path may be an earlier one, so the row at this index is compared.
     indexes: Vec<usize>,
-    /// By fingerprint, the number of the first comparison that has it, or whose row has it. No clause rests on it: what it gives is
-    /// compared.
+    /// By fingerprint: the number of the first comparison with this fingerprint, or with a row that
+    /// has it. No clause depends on this map: its results are compared.
     numbers: IndexMap<u64, usize>,
 }
 
@@ -37,28 +38,26 @@ impl Model for Atoms {
     ghost view = { λ a. a.known.items };
 }
 
-/// An odd number whose bits look random: 2^64 over the golden ratio.
+/// An odd number with irregular bits: 2^64 divided by the golden ratio.
 const MULTIPLIER: u64 = 0x9e37_79b9_7f4a_7c15;
 
-/// A number with another one mixed into it.
 fn mixed(number: u64, next: u64) -> u64 {
     let product = (number ^ next).wrapping_mul(MULTIPLIER);
     product ^ (product >> 32)
 }
 
-/// A number with a wide one mixed into it.
 fn with_wide(number: u64, next: u128) -> u64 {
     let halves = (next ^ (next >> 64)) % (1 << 64);
     mixed(number, halves as u64)
 }
 
-/// A number with a fraction mixed into it.
 fn with_fraction(number: u64, fraction: &Frac) -> u64 {
     let half = with_wide(number, fraction.num().cast_unsigned());
     with_wide(half, fraction.den().cast_unsigned())
 }
 
-/// The fingerprint of a comparison: a number that comparisons of the same value have in common, and others rarely have.
+/// Returns the fingerprint of a comparison: equal comparisons have equal fingerprints, and
+/// different ones rarely do.
 fn of_value(left: &Lin, strict: bool) -> u64 {
     let mut found = with_fraction(u64::from(strict), &left.rest);
     for term in &left.terms {
@@ -67,7 +66,6 @@ fn of_value(left: &Lin, strict: bool) -> u64 {
     found
 }
 
-/// The fingerprint of a row, in the same way.
 fn of_row(row: &Row) -> u64 {
     let mut found = mixed(u64::from(row.strict), row.rest.cast_unsigned());
     for term in &row.terms {
@@ -78,7 +76,7 @@ fn of_row(row: &Row) -> u64 {
 }
 
 impl Atoms {
-    /// None.
+    /// Returns an empty table.
     pub fn new(alloc: Global) -> Atoms
         ensures { result ≡ [] }
     {
@@ -89,7 +87,7 @@ impl Atoms {
         }
     }
 
-    /// The number of the comparison, where the walk has met it.
+    /// Returns the number of the comparison `atom`, if the walk has asked it.
     pub fn find(&self, atom: &Atom) -> Option<usize>
         ensures { IfSome result (IsNumber self.now (atom_of atom.now)) }
     {
@@ -104,23 +102,27 @@ impl Atoms {
         }
     }
 
-    /// The row of an answer, where the walk has met its question.
+    /// Returns the row of `answer`, if the walk has asked its comparison.
     pub fn row_of(&self, answer: &Taken) -> Option<&Row>
-        ensures { (types : List PlainTy) → AreKnown types self.now → IfSome result (λ r. IsRowOf types (atom_of answer.now.atom) answer.now.held r.now) }
+        ensures { (types : List PlainTy) → AreKnown types self.now
+            → IfSome result (λ r. IsRowOf types (atom_of answer.now.atom) answer.now.held r.now) }
     {
         let number = self.find(&answer.atom)?;
         Some(row_of(self.known.get(number)?, answer.held))
     }
 
-    /// Takes in one more comparison with the rows of both answers, where these clash, and gives its number. Want of memory is the one
-    /// error.
+    /// Adds the comparison `atom` with the rows of both answers, and returns its number, or None if
+    /// it is not proved that the rows exclude each other.
     pub fn add(
         &mut self,
         alloc: Global,
         atom: &Atom,
         rows: AnswerRows,
     ) -> Result<Option<usize>, AllocError>
-        ensures known { (types : List PlainTy) → AreKnown types self.old → IsRowOf types (atom_of atom.now) true rows.yes → IsRowOf types (atom_of atom.now) false rows.no → IfOk result (λ _. AreKnown types self.new) }
+        ensures known { (types : List PlainTy) → AreKnown types self.old
+            → IsRowOf types (atom_of atom.now) true rows.yes
+            → IsRowOf types (atom_of atom.now) false rows.no
+            → IfOk result (λ _. AreKnown types self.new) }
         ensures number { IfOk result (λ n. IfSome n (IsNumber self.new (atom_of atom.now))) }
     {
         let number = self.known.len();
@@ -141,11 +143,12 @@ impl Atoms {
         Ok(Some(number))
     }
 
-    /// The answer that a path with these rows has given to the comparison of this number. Where it has given none, what it answers next
-    /// will have its row behind these.
+    /// Returns the answer that a path with the rows `rows` has given to comparison `number`. If it
+    /// has given none, records that the row of its next answer will be after `rows`.
     pub fn recall(&mut self, number: usize, rows: &[Row]) -> Option<Recalled>
         ensures known { (types : List PlainTy) → AreKnown types self.old → AreKnown types self.new }
-        ensures recalled { (types : List PlainTy) (q : PlainAtom) → AreKnown types self.old → IsNumber self.old q number → IfSome result (IsRecalled types rows.now q) }
+        ensures recalled { (types : List PlainTy) (q : PlainAtom) → AreKnown types self.old
+            → IsNumber self.old q number → IfSome result (IsRecalled types rows.now q) }
     {
         let known = self.known.get(number)?;
         let index = self.indexes.get_mut(known.first)?;

@@ -1,4 +1,4 @@
-//! What a cell of the walk shows.
+//! The result of a cell of the walk.
 
 ghost use Rattle.std.specs.Prelude.{List, take, IfOk};
 ghost use Rattle.heylo_formula.specs.Goals.{Goal as PlainGoal, goal_of};
@@ -23,17 +23,19 @@ use linear_guess::Search;
 use linear_rows::Row;
 use std::alloc::{AllocError, Global};
 
-/// What a cell of the walk shows.
+/// The result of a cell.
 #[derive(Drop)]
 pub enum Cell {
-    /// What all cells up to this one have shown, and the cell's tree; none where the cell has ends or is too deep.
+    /// The results of all cells up to this one, and the tree of this cell: None if it has ends, or
+    /// the whole tree would be too deep.
     Judged(Found, Option<Tree>),
-    /// There are too many rows, or a number is too great.
+    /// There are more than 4,096 rows, or a number overflows.
     Unknown(Cause),
 }
 
-/// Looks at a cell that isn't plain, with the rows of its denied goal, once the cells before it have shown this. Its pieces are looked at
-/// only where no point is known. Want of memory is the one error.
+/// Decides a cell at which the goal does not hold trivially, with the rows `list` of its denied
+/// goal, after the cells before it have given `found`. Its pieces are solved only if no point is
+/// known.
 pub fn judge(
     alloc: Global,
     goal: &Goal,
@@ -62,7 +64,7 @@ pub fn judge(
     }
 }
 
-/// What the pieces of a cell show, where no point is known. Want of memory is the one error.
+/// Solves the pieces of a cell.
 fn open_cell(
     alloc: Global,
     goal: &Goal,
@@ -87,9 +89,11 @@ fn open_cell(
     }
 }
 
-/// What all cells up to this one have shown, where its pieces show this, and the cells before it have given no point.
+/// Returns the results of all cells up to this one, whose pieces give `shown`, if no point is known
+/// before.
 fn shown_cell(found: Found, shown: Piece) -> Cell
-    ensures { (g : PlainGoal) (ps : List PlainTaken) → IsOpen found → IsCell g ps → (IsPlainAt g ps → ⊥) → IsPieceShown g 0 ps shown → IsJudged g ps found result }
+    ensures { (g : PlainGoal) (ps : List PlainTaken) → IsOpen found → IsCell g ps
+        → (IsPlainAt g ps → ⊥) → IsPieceShown g 0 ps shown → IsJudged g ps found result }
 {
     match shown {
         Piece::Closed(tree) => Cell::Judged(found, tree),
@@ -99,7 +103,7 @@ fn shown_cell(found: Found, shown: Piece) -> Cell
     }
 }
 
-/// Looks at a cell that isn't plain, where one before it has given this point: so no other is needed.
+/// Decides a cell after a cell before has given `point`, so that no other point is needed.
 fn judge_further(
     alloc: Global,
     goal: &Goal,
@@ -112,7 +116,8 @@ fn judge_further(
 ) -> Result<Cell, AllocError>
     requires stands { IsCellStand (goal_of goal.now) (path_of path.now) list.now kept end.now }
     requires remembered { Remembers search.old list.now }
-    ensures judged { IfOk result (λ c. IsJudged (goal_of goal.now) (path_of path.now) (PointFound point) c) }
+    ensures judged { IfOk result
+        (λ c. IsJudged (goal_of goal.now) (path_of path.now) (PointFound point) c) }
     ensures remembered { Remembers search.new (take kept list.now) }
 {
     match settle(alloc, list, kept, &goal.vars, search)? {

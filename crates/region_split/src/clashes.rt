@@ -1,18 +1,16 @@
-//! Two rows that nothing meets together.
+//! Pairs of rows that exclude each other.
 
 ghost use Rattle.std.specs.Prelude.{◌≡◌, ◌<◌, ◌^◌, ◌+ℤ◌, pos, unsigned_abs, IsTrue};
 ghost use Rattle.region_split.specs.internal.Clashes.{Cancel, AddUp, Clash};
 
 use linear_rows::Row;
 
-/// Whether a number is below 2^62, as each one of a row is.
 fn is_narrow(number: i64) -> bool
     ensures { IsTrue result → unsigned_abs number < 2 ^ 62 }
 {
     number.unsigned_abs() < 1 << 62
 }
 
-/// Whether two coefficients add up to 0.
 fn cancel(first: i64, second: i64) -> bool
     ensures narrow { IsTrue result → unsigned_abs first < 2 ^ 62 }
     ensures zero { IsTrue result → first +ℤ second ≡ pos 0 }
@@ -26,7 +24,7 @@ fn cancel(first: i64, second: i64) -> bool
     first + second == 0
 }
 
-/// Whether the variables grow, and each coefficient and the one beside it add up to 0.
+/// Returns whether the variables increase, and the coefficients of each add up to 0.
 fn all_cancel(first: &[(u32, i64)], second: &[(u32, i64)]) -> bool
     ensures { IsTrue result → Cancel 0 first.now second.now }
 {
@@ -50,7 +48,7 @@ fn all_cancel(first: &[(u32, i64)], second: &[(u32, i64)]) -> bool
     others.is_empty()
 }
 
-/// Whether two constants add up to what nothing meets.
+/// Returns whether the constants of two rows add up to a false inequality.
 fn add_up(first: &Row, second: &Row) -> bool
     ensures { IsTrue result → AddUp first.now second.now }
 {
@@ -64,7 +62,7 @@ fn add_up(first: &Row, second: &Row) -> bool
     sum > 0 || (sum == 0 && (first.strict || second.strict))
 }
 
-/// Whether the sum of two rows has no variable, and nothing meets it. It may be told no of any two.
+/// Returns true only if the sum of two rows has no variable and is false.
 pub fn clash(first: &Row, second: &Row) -> bool
     ensures { IsTrue result → Clash first.now second.now }
 {

@@ -14,7 +14,7 @@ use heylo_formula::Goal;
 use linear_form::{nonlinear, paths_are_short};
 use std::alloc::{AllocError, Global};
 
-/// Decides a goal: it is proved, or falsified by a state, or unknown for a cause. Want of memory is the one error.
+/// Decides a goal: it is proved, falsified by a state, or unknown for a cause.
 pub fn decide(alloc: Global, goal: &Goal) -> Result<Decision, AllocError>
     requires typed { IsTypedGoal (goal_of goal.now) }
     requires own_variables { HasItsVariables (goal_of goal.now) }

@@ -1,4 +1,4 @@
-//! The way down from a question.
+//! The way down from a comparison.
 
 ghost use Rattle.std.specs.Prelude.{◌≡◌, ◌+◌, IfOk, None};
 ghost use Rattle.heylo_formula.specs.Goals.{goal_of};
@@ -7,7 +7,8 @@ ghost use Rattle.linear_form.specs.Cells.{IsKeptPath};
 ghost use Rattle.linear_form.specs.Nonlinear.{nonlinear_product};
 ghost use Rattle.linear_form.specs.Places.{IsOn};
 ghost use Rattle.linear_form.specs.PlainPaths.{path_of};
-ghost use Rattle.region_split.specs.internal.Progress.{AreShort, IsStandingWalk, IsAsking, IsBelow, IsStep, left_of};
+ghost use Rattle.region_split.specs.internal.Progress.{AreShort, IsStandingWalk, IsAsking, IsBelow};
+ghost use Rattle.region_split.specs.internal.Progress.{IsStep, left_of};
 
 use crate::front::end_of;
 use crate::growth::leaf;
@@ -19,8 +20,8 @@ use heylo_formula::Goal;
 use linear_form::{Ask, Atom, Place, Reached, Taken, go_on_from};
 use std::alloc::{AllocError, Global};
 
-/// Goes on from a question, which this evaluation asks: to the branch of yes. Where the path has answered the question before, one
-/// branch is done, and the walk goes past the front of the other one.
+/// Takes the branch in which `atom` holds; `place` is the evaluation that asks `atom`. If the path
+/// has answered `atom` before, only the branch with this answer is walked.
 pub fn deeper(
     alloc: Global,
     goal: &Goal,
@@ -32,7 +33,8 @@ pub fn deeper(
     requires short { AreShort (goal_of goal.now) }
     requires linear { nonlinear_product (goal_of goal.now) ≡ None }
     requires asking { IsAsking (goal_of goal.now) walk.old atom place }
-    ensures { IfOk result (λ s. IsStep (goal_of goal.now) (path_of walk.old.trail.path.items) walk.new s) }
+    ensures { IfOk result (λ s.
+        IsStep (goal_of goal.now) (path_of walk.old.trail.path.items) walk.new s) }
 {
     match repeated(alloc, goal, &mut walk.trail, atom, &place)? {
         Repeat::New(question) => {
@@ -53,7 +55,7 @@ pub fn deeper(
     }
 }
 
-/// Goes past a front that is kept, on whose path this evaluation stands.
+/// Continues after a path with solvable rows; `place` is an evaluation on this path.
 fn past(alloc: Global, goal: &Goal, walk: &mut Walk, place: Place) -> Result<Step, AllocError>
     requires typed { IsTypedGoal (goal_of goal.now) }
     requires short { AreShort (goal_of goal.now) }
@@ -61,7 +63,9 @@ fn past(alloc: Global, goal: &Goal, walk: &mut Walk, place: Place) -> Result<Ste
     requires stands { IsStandingWalk (goal_of goal.now) walk.old }
     requires kept { IsKeptPath (goal_of goal.now) (path_of walk.old.trail.path.items) }
     requires on { IsOn (goal_of goal.now) (path_of walk.old.trail.path.items) place }
-    ensures { IfOk result (λ s. IsBelow (goal_of goal.now) (left_of (goal_of goal.now) (path_of walk.old.trail.path.items) + 1) walk.new s) }
+    ensures { IfOk result (λ s.
+        IsBelow (goal_of goal.now)
+        (left_of (goal_of goal.now) (path_of walk.old.trail.path.items) + 1) walk.new s) }
 {
     let Reached { ask, place } = go_on_from(alloc, goal, place, &walk.trail.path)?;
     match ask {

@@ -1,6 +1,7 @@
-//! What stands at a path of the walk.
+//! The classification of a path of the walk.
 
-ghost use Rattle.std.specs.Prelude.{◌<◌, ◌+◌, ◌++◌, ◌∷◌, ◌^◌, ◌≡◌, List, [], length, IfOk, IfSome, IsTrue, Some, true, false};
+ghost use Rattle.std.specs.Prelude.{◌<◌, ◌+◌, ◌++◌, ◌∷◌, ◌^◌, ◌≡◌, List, [], length, IfOk, IfSome};
+ghost use Rattle.std.specs.Prelude.{IsTrue, Some, true, false};
 ghost use Rattle.heylo_formula.specs.Goals.{Goal as PlainGoal, goal_of};
 ghost use Rattle.heylo_formula.specs.Typing.{types_in};
 ghost use Rattle.linear_form.specs.AskAnswers.{Answers};
@@ -36,7 +37,8 @@ use linear_rows::Row;
 use linear_values::Lin;
 use std::alloc::{AllocError, Global};
 
-/// The values of the stated and of the found form at an end, None for infinity, and whether the goal holds plainly there.
+/// The values of the stated bound and of the computed form at an end, None for infinity, and
+/// whether the goal holds trivially there.
 #[derive(Drop)]
 pub struct End {
     pub stated: Option<Lin>,
@@ -44,26 +46,27 @@ pub struct End {
     pub plain: bool,
 }
 
-/// What stands at a path of the walk.
+/// The kind of a path of the walk.
 #[derive(Drop)]
 pub enum Front {
-    /// No fractions meet the path's rows: multipliers by row index, which a certificate takes here.
+    /// The rows of the path have no solution: the multipliers of a certificate, by row index.
     Dropped(Vec<(u32, u64)>),
-    /// The next question, and the evaluation that asks it.
+    /// The next comparison, and the evaluation that asks it.
     Question(Atom, Place),
-    /// No question is left.
+    /// No comparison is left.
     End(End),
-    /// There are too many rows, or a number is too great.
+    /// There are more than 4,096 rows, or a number overflows.
     Unknown(Cause),
 }
 
-/// What stands at the path that a trail comes to. The trail stands there then. Want of memory is the one error.
+/// Classifies the path of `trail`, and adds the row of the last answer to the trail.
 pub fn look(alloc: Global, goal: &Goal, trail: &mut Trail) -> Result<Front, AllocError>
     requires path { IsPath (goal_of goal.now) (path_of trail.old.path.items) }
     requires typed { IsTypedGoal (goal_of goal.now) }
     requires short { length trail.old.path.items + 1 + length goal.now.vars.items < 2 ^ 32 }
     requires comes { Comes (goal_of goal.now) trail.old }
-    ensures { IfOk result (λ f. IsSeen (goal_of goal.now) (path_of trail.old.path.items) trail.new f) }
+    ensures { IfOk result (λ f.
+        IsSeen (goal_of goal.now) (path_of trail.old.path.items) trail.new f) }
 {
     let noted = trail.rows.len();
     let before = std::mem::replace(&mut trail.rows, Vec::new(alloc));
@@ -77,8 +80,8 @@ pub fn look(alloc: Global, goal: &Goal, trail: &mut Trail) -> Result<Front, Allo
     }
 }
 
-/// The rows of the path's comparisons, where the last answer may have no row yet. What is known of the comparisons may tell
-/// that row. Want of memory is the one error.
+/// Returns the rows of the answers of `path`; `rows` may lack that of the last answer. `atoms` may
+/// know this row.
 fn with_last_row(
     alloc: Global,
     goal: &Goal,
@@ -89,7 +92,9 @@ fn with_last_row(
     requires path { IsPath (goal_of goal.now) (path_of path.now) }
     requires known { AreKnown (goal_of goal.now).types atoms.now }
     requires rows { AreRowsSoFar (goal_of goal.now) (path_of path.now) rows.items }
-    ensures { IfOk result (λ r. Lists r (all_tightened (types_in (goal_of goal.now).types) (path_claims (path_of path.now)))) }
+    ensures { IfOk result (λ r.
+        Lists r (all_tightened (types_in (goal_of goal.now).types)
+        (path_claims (path_of path.now)))) }
 {
     let Some((answer, _)) = path.split_last() else {
         return Ok(RowList::Rows(rows));
@@ -103,13 +108,14 @@ fn with_last_row(
     }
 }
 
-/// What stands at the path at which a trail stands. Want of memory is the one error.
+/// Classifies the path of `trail`, which has all its rows.
 fn look_there(alloc: Global, goal: &Goal, trail: &mut Trail) -> Result<Front, AllocError>
     requires path { IsPath (goal_of goal.now) (path_of trail.old.path.items) }
     requires typed { IsTypedGoal (goal_of goal.now) }
     requires short { length trail.old.path.items + 1 + length goal.now.vars.items < 2 ^ 32 }
     requires stands { Stands (goal_of goal.now) trail.old }
-    ensures { IfOk result (λ f. IsSeen (goal_of goal.now) (path_of trail.old.path.items) trail.new f) }
+    ensures { IfOk result (λ f.
+        IsSeen (goal_of goal.now) (path_of trail.old.path.items) trail.new f) }
 {
     let kept_rows = trail.rows.len();
     let rows = std::mem::replace(&mut trail.rows, Vec::new(alloc));
@@ -133,10 +139,12 @@ fn look_there(alloc: Global, goal: &Goal, trail: &mut Trail) -> Result<Front, Al
     }
 }
 
-/// The evaluation that asked the last question, where it is kept.
+/// Returns the evaluation that asked the last comparison, if it is kept.
 fn last_place(places: &[Way]) -> Option<&Place>
-    ensures on { (g : PlainGoal) (ps : List PlainTaken) → ArePlaces g ps places.now → IfSome result (λ p. IsOn g ps p.now) }
-    ensures asked { (g : PlainGoal) (ps : List PlainTaken) (t : PlainTaken) → ArePlaces g (ps ++ (t ∷ [])) places.now → IfSome result (λ p. IsOn g ps p.now) }
+    ensures on { (g : PlainGoal) (ps : List PlainTaken) → ArePlaces g ps places.now
+        → IfSome result (λ p. IsOn g ps p.now) }
+    ensures asked { (g : PlainGoal) (ps : List PlainTaken) (t : PlainTaken)
+        → ArePlaces g (ps ++ (t ∷ [])) places.now → IfSome result (λ p. IsOn g ps p.now) }
 {
     match places.last() {
         Some(way) => open_place(way),
@@ -144,7 +152,6 @@ fn last_place(places: &[Way]) -> Option<&Place>
     }
 }
 
-/// The evaluation, where it is kept.
 fn open_place(way: &Way) -> Option<&Place>
     ensures { IfSome result (λ p. way.now ≡ Open p.now) }
 {
@@ -154,7 +161,7 @@ fn open_place(way: &Way) -> Option<&Place>
     }
 }
 
-/// What stands at the end of a path, evaluated on from the last one of these places. Want of memory is the one error.
+/// Returns what is at the end of `path`, evaluated from the last one of `places`.
 fn reached(
     alloc: Global,
     goal: &Goal,
@@ -163,7 +170,8 @@ fn reached(
 ) -> Result<Reached, AllocError>
     requires path { IsPath (goal_of goal.now) (path_of path.now) }
     requires places { ArePlaces (goal_of goal.now) (path_of path.now) places.now }
-    ensures asked { IfOk result (λ r. Answers r.ask (end_at (goal_of goal.now) (path_of path.now))) }
+    ensures asked { IfOk result
+        (λ r. Answers r.ask (end_at (goal_of goal.now) (path_of path.now))) }
     ensures on { IfOk result (λ r. IsOn (goal_of goal.now) (path_of path.now) r.place) }
 {
     match last_place(places) {
@@ -175,11 +183,12 @@ fn reached(
     }
 }
 
-/// What stands at a path whose rows are solvable.
+/// Classifies a path whose rows are solvable.
 fn kept(alloc: Global, goal: &Goal, trail: &Trail) -> Result<Front, AllocError>
     requires path { IsPath (goal_of goal.now) (path_of trail.now.path.items) }
     requires stands { Stands (goal_of goal.now) trail.now }
-    ensures { IsKeptPath (goal_of goal.now) (path_of trail.now.path.items) → IfOk result (λ f. IsSeen (goal_of goal.now) (path_of trail.now.path.items) trail.now f) }
+    ensures { IsKeptPath (goal_of goal.now) (path_of trail.now.path.items)
+        → IfOk result (λ f. IsSeen (goal_of goal.now) (path_of trail.now.path.items) trail.now f) }
 {
     let Reached { ask, place } = reached(alloc, goal, &trail.path, &trail.places)?;
     match ask {
@@ -189,9 +198,11 @@ fn kept(alloc: Global, goal: &Goal, trail: &Trail) -> Result<Front, AllocError>
     }
 }
 
-/// The values of the two forms at an end, and whether the goal holds plainly there.
+/// Returns the end with the given values.
 pub fn end_of(goal: &Goal, stated: Option<Lin>, found: Option<Lin>) -> End
-    ensures { (ps : List PlainTaken) → IsKeptPath (goal_of goal.now) ps → Answers (EndFound stated found) (end_at (goal_of goal.now) ps) → IsEndOf (goal_of goal.now) ps result }
+    ensures { (ps : List PlainTaken) → IsKeptPath (goal_of goal.now) ps
+        → Answers (EndFound stated found) (end_at (goal_of goal.now) ps)
+        → IsEndOf (goal_of goal.now) ps result }
 {
     let plain = holds_plainly(goal.upper, &stated, &found);
     End {
@@ -201,9 +212,11 @@ pub fn end_of(goal: &Goal, stated: Option<Lin>, found: Option<Lin>) -> End
     }
 }
 
-/// Whether the last one of these places surely asks on, so that a question stands at the end of the path, or a number is too large.
+/// Returns true only if the path is surely not at an end: a comparison is left, or a number
+/// overflows.
 fn surely_lasts(path: &[Taken], places: &[Way]) -> bool
-    ensures { (g : PlainGoal) → IsTrue result → IsPath g (path_of path.now) → ArePlaces g (path_of path.now) places.now → IsNoEnd g (path_of path.now) }
+    ensures { (g : PlainGoal) → IsTrue result → IsPath g (path_of path.now)
+        → ArePlaces g (path_of path.now) places.now → IsNoEnd g (path_of path.now) }
 {
     match path.split_last() {
         None => false,
@@ -214,8 +227,9 @@ fn surely_lasts(path: &[Taken], places: &[Way]) -> bool
     }
 }
 
-/// The multipliers that a certificate takes at a path whose rows these multipliers refute. At an end at which the goal doesn't
-/// hold plainly a certificate speaks of the rows with the denied goal, which stands before the rows of signs.
+/// Returns the multipliers of a certificate at a path whose rows `multipliers` refute. At an end at
+/// which the goal does not hold trivially, the rows of a certificate include the denied goal,
+/// before the rows of signs.
 fn dropped(
     alloc: Global,
     goal: &Goal,
@@ -226,9 +240,12 @@ fn dropped(
     requires path { IsPath (goal_of goal.now) (path_of trail.old.path.items) }
     requires short { length trail.old.path.items + 1 + length goal.now.vars.items < 2 ^ 32 }
     requires stands { Stands (goal_of goal.now) trail.old }
-    requires rows { rows_of (goal_of goal.now) (path_of trail.old.path.items) false ≡ Some (trail.old.rows.items ++ signs.now) }
-    requires refuted { IsRefutedWith (goal_of goal.now) (path_of trail.old.path.items) false multipliers.items }
-    ensures { IfOk result (λ f. IsSeen (goal_of goal.now) (path_of trail.old.path.items) trail.new f) }
+    requires rows { rows_of (goal_of goal.now) (path_of trail.old.path.items) false
+        ≡ Some (trail.old.rows.items ++ signs.now) }
+    requires refuted { IsRefutedWith (goal_of goal.now)
+        (path_of trail.old.path.items) false multipliers.items }
+    ensures { IfOk result (λ f.
+        IsSeen (goal_of goal.now) (path_of trail.old.path.items) trail.new f) }
 {
     if surely_lasts(&trail.path, &trail.places) {
         return Ok(Front::Dropped(multipliers));
@@ -247,8 +264,9 @@ fn dropped(
     }
 }
 
-/// The multipliers that a certificate takes at a dropped end at which the goal doesn't hold plainly: those of the rows without the
-/// denied goal, with the indexes that the rows have once it is among them. There are none where the denied goal can't be stated.
+/// Returns the multipliers of a certificate at a dropped end at which the goal does not hold
+/// trivially: those for the rows without the denied goal, with the indexes of these rows among
+/// those with it, or an overflow of the denied goal.
 fn dropped_end(
     alloc: Global,
     goal: &Goal,
@@ -261,11 +279,15 @@ fn dropped_end(
     requires path { IsPath (goal_of goal.now) (path_of trail.old.path.items) }
     requires short { length trail.old.path.items + 1 + length goal.now.vars.items < 2 ^ 32 }
     requires stands { Stands (goal_of goal.now) trail.old }
-    requires ends { Answers (EndFound stated.now found.now) (end_at (goal_of goal.now) (path_of trail.old.path.items)) }
-    requires rows { rows_of (goal_of goal.now) (path_of trail.old.path.items) false ≡ Some (trail.old.rows.items ++ signs.now) }
-    requires refuted { IsRefutedWith (goal_of goal.now) (path_of trail.old.path.items) false multipliers.now }
+    requires ends { Answers (EndFound stated.now found.now)
+        (end_at (goal_of goal.now) (path_of trail.old.path.items)) }
+    requires rows { rows_of (goal_of goal.now) (path_of trail.old.path.items) false
+        ≡ Some (trail.old.rows.items ++ signs.now) }
+    requires refuted { IsRefutedWith (goal_of goal.now)
+        (path_of trail.old.path.items) false multipliers.now }
     requires denied { has_denied (goal_of goal.now) (path_of trail.old.path.items) ≡ true }
-    ensures { IfOk result (λ f. IsSeen (goal_of goal.now) (path_of trail.old.path.items) trail.new f) }
+    ensures { IfOk result (λ f.
+        IsSeen (goal_of goal.now) (path_of trail.old.path.items) trail.new f) }
 {
     let kept_rows = trail.rows.len();
     let rows = std::mem::replace(&mut trail.rows, Vec::new(alloc));

@@ -13,11 +13,11 @@ use crate::pieces::Split;
 use goal_answers::Tree;
 use std::alloc::{AllocError, Global};
 
-/// A deeper tree isn't kept.
+/// The maximum depth of a tree.
 const MOST_DEPTH: usize = 1000;
 
-/// The tree of a branch that ends at once, to which this many answers lead: none where the whole tree is deeper than 1,000
-/// with it. So no tree is built that can't be given.
+/// Returns the tree of a branch that ends after `answers` answers, or None if the whole tree would
+/// be deeper than 1,000. So no tree is built that cannot be returned.
 pub fn leaf(tree: Tree, answers: usize) -> Option<Tree>
     ensures { IsLeaf answers tree result }
 {
@@ -28,13 +28,15 @@ pub fn leaf(tree: Tree, answers: usize) -> Option<Tree>
     }
 }
 
-/// The tree that splits into the trees of two branches; none where one of them is missing.
+/// Returns the tree that splits into `left` and `right`, or None if one of them is missing.
 pub fn joined(
     alloc: Global,
     left: Option<Tree>,
     right: Option<Tree>,
 ) -> Result<Option<Tree>, AllocError>
-    ensures { (g : PlainGoal) (ps : List PlainTaken) (q : Atom) → GoesOn g ps q → IsGrown g (onto ps q true) left → IsGrown g (onto ps q false) right → IfOk result (λ t. IsGrown g ps t) }
+    ensures { (g : PlainGoal) (ps : List PlainTaken) (q : Atom) → GoesOn g ps q
+        → IsGrown g (onto ps q true) left → IsGrown g (onto ps q false) right
+        → IfOk result (λ t. IsGrown g ps t) }
 {
     match left {
         Some(first) => match right {
@@ -45,14 +47,19 @@ pub fn joined(
     }
 }
 
-/// The tree of a piece that is split into two with these trees; none where one of them is missing.
+/// Returns the tree of a piece that is split at `at` into two with the trees `first` and `second`,
+/// or None if one of them is missing.
 pub fn joined_halves(
     alloc: Global,
     at: &Split,
     first: Option<Tree>,
     second: Option<Tree>,
 ) -> Result<Option<Tree>, AllocError>
-    ensures { (g : PlainGoal) (n : ℕ) (ps : List PlainTaken) → IsSplitAt g n ps at.now.variable at.now.bound → IsPieceGrown g (suc n) (first_half ps at.now.variable at.now.bound) first → IsPieceGrown g (suc n) (second_half ps at.now.variable at.now.bound) second → IfOk result (λ t. IsPieceGrown g n ps t) }
+    ensures { (g : PlainGoal) (n : ℕ) (ps : List PlainTaken)
+        → IsSplitAt g n ps at.now.variable at.now.bound
+        → IsPieceGrown g (suc n) (first_half ps at.now.variable at.now.bound) first
+        → IsPieceGrown g (suc n) (second_half ps at.now.variable at.now.bound) second
+        → IfOk result (λ t. IsPieceGrown g n ps t) }
 {
     match first {
         Some(left) => match second {
@@ -63,16 +70,15 @@ pub fn joined_halves(
     }
 }
 
-/// The tree that splits a whole variable, with these two below.
 fn whole(alloc: Global, at: &Split, left: Tree, right: Tree) -> Result<Tree, AllocError>
-    ensures { IfOk result (λ t. tree_of t ≡ PlainTree.whole at.now.variable at.now.bound (tree_of left) (tree_of right)) }
+    ensures { IfOk result (λ t. tree_of t
+        ≡ PlainTree.whole at.now.variable at.now.bound (tree_of left) (tree_of right)) }
 {
     let first = Box::new(alloc, left)?;
     let second = Box::new(alloc, right)?;
     Ok(Tree::Whole(at.variable, at.bound, first, second))
 }
 
-/// The tree that splits into these two.
 fn split(alloc: Global, left: Tree, right: Tree) -> Result<Tree, AllocError>
     ensures { IfOk result (λ t. tree_of t ≡ PlainTree.split (tree_of left) (tree_of right)) }
 {

@@ -1,10 +1,11 @@
-//! Comparisons that are known with the rows of both answers.
+//! Comparisons of numbers whose rows for both answers are known.
 
 ghost use Rattle.std.specs.Prelude.{◌≡◌, List, true, false, IfOk, IfSome, IsTrue};
 ghost use Rattle.heylo_formula.specs.declared.types.Ty.{Ty as PlainTy};
 ghost use Rattle.linear_form.specs.PlainPaths.{atom_of};
 ghost use Rattle.linear_values.specs.PlainValues.{lin_of};
-ghost use Rattle.region_split.specs.internal.KnownComparisons.{IsKnownQuestion, IsRecalled, IsRowOf, question_of};
+ghost use Rattle.region_split.specs.internal.KnownComparisons.{IsKnownQuestion, IsRecalled};
+ghost use Rattle.region_split.specs.internal.KnownComparisons.{IsRowOf, question_of};
 
 use crate::answer_rows::AnswerRows;
 use crate::clashes::clash;
@@ -16,29 +17,29 @@ use linear_values::Lin;
 use linear_values::lin::copy;
 use std::alloc::{AllocError, Global};
 
-/// A comparison that a walk has met, and the rows of both answers, which clash.
+/// A comparison that a walk has asked, and the rows of both answers, which exclude each other.
 #[derive(Drop)]
 pub struct Known {
     /// The linear value that is compared with 0.
     pub left: Lin,
-    /// Whether it is to be below 0, and not only at most 0.
+    /// True for `left < 0`, false for `left <= 0`.
     pub strict: bool,
-    /// The row of yes.
+    /// The row of the answer yes.
     pub yes: Row,
-    /// The row of no.
+    /// The row of the answer no.
     pub no: Row,
-    /// The number of the first comparison that the walk has met with one of these rows.
+    /// The number of the first comparison of the walk with one of these rows.
     pub first: usize,
 }
 
-/// An answer that a path has given before, and the index of its row on the path.
+/// An answer that a path has given before, and the index of its row.
 #[derive(Clone, Copy)]
 pub struct Recalled {
     pub held: bool,
     pub index: usize,
 }
 
-/// The same row again. Want of memory is the one error.
+/// Returns a copy of `row`.
 pub fn copy_row(alloc: Global, row: &Row) -> Result<Row, AllocError>
     ensures { IfOk result (λ r. r ≡ row.now) }
 {
@@ -49,15 +50,17 @@ pub fn copy_row(alloc: Global, row: &Row) -> Result<Row, AllocError>
     })
 }
 
-/// The comparison with the rows of its answers, where this is the number of the first one with one of them; none where the rows don't
-/// clash. Want of memory is the one error.
+/// Returns the comparison with the rows of its answers, or None if the rows do not exclude each
+/// other; `first` is the number of the first comparison with one of these rows.
 pub fn make_known(
     alloc: Global,
     atom: &Atom,
     rows: AnswerRows,
     first: usize,
 ) -> Result<Option<Known>, AllocError>
-    ensures known { (types : List PlainTy) → IsRowOf types (atom_of atom.now) true rows.yes → IsRowOf types (atom_of atom.now) false rows.no → IfOk result (λ k. IfSome k (λ k. IsKnownQuestion types k)) }
+    ensures known { (types : List PlainTy) → IsRowOf types (atom_of atom.now) true rows.yes
+        → IsRowOf types (atom_of atom.now) false rows.no
+        → IfOk result (λ k. IfSome k (λ k. IsKnownQuestion types k)) }
     ensures asked { IfOk result (λ k. IfSome k (λ k. question_of k ≡ atom_of atom.now)) }
 {
     let Atom::Row(left, strict) = atom else {
@@ -78,7 +81,6 @@ pub fn make_known(
     }))
 }
 
-/// Whether the terms of two linear values are the same.
 fn are_same_value_terms(a: &[(u32, Frac)], b: &[(u32, Frac)]) -> bool
     ensures { IsTrue result → a.now ≡ b.now }
 {
@@ -97,14 +99,13 @@ fn are_same_value_terms(a: &[(u32, Frac)], b: &[(u32, Frac)]) -> bool
     second.is_empty()
 }
 
-/// Whether the values are the same.
 fn is_same_value(a: &Lin, b: &Lin) -> bool
     ensures { IsTrue result → lin_of a.now ≡ lin_of b.now }
 {
     a.rest == b.rest && are_same_value_terms(&a.terms, &b.terms)
 }
 
-/// Whether this is the question.
+/// Returns whether `known` is the comparison `atom`.
 pub fn asks(known: &Known, atom: &Atom) -> bool
     ensures { IsTrue result → question_of known.now ≡ atom_of atom.now }
 {
@@ -114,16 +115,18 @@ pub fn asks(known: &Known, atom: &Atom) -> bool
     }
 }
 
-/// The row of the answer.
+/// Returns the row of the answer `held`.
 pub fn row_of(known: &Known, held: bool) -> &Row
-    ensures { (types : List PlainTy) → IsKnownQuestion types known.now → IsRowOf types (question_of known.now) held result.now }
+    ensures { (types : List PlainTy) → IsKnownQuestion types known.now
+        → IsRowOf types (question_of known.now) held result.now }
 {
     if held { &known.yes } else { &known.no }
 }
 
-/// The answer whose row stands on the path at the index, where one of them does.
+/// Returns the answer whose row is at `index` of `rows`, if one of the two is.
 pub fn answer(known: &Known, rows: &[Row], index: usize) -> Option<Recalled>
-    ensures { (types : List PlainTy) → IsKnownQuestion types known.now → IfSome result (IsRecalled types rows.now (question_of known.now)) }
+    ensures { (types : List PlainTy) → IsKnownQuestion types known.now
+        → IfSome result (IsRecalled types rows.now (question_of known.now)) }
 {
     if index >= rows.len() {
         return None;

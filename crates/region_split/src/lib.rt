@@ -1,4 +1,5 @@
-//! The decision of a goal: its questions are walked, and each cell is refuted or gives a point at which the goal fails.
+//! The decision of a goal: a walk through its comparisons either refutes the denied goal in each
+//! cell, or finds a point at which the goal fails. `AllocError` means that memory ran out.
 #![tactic(auto)]
 
 mod answer_rows;

@@ -1,4 +1,4 @@
-//! Multipliers of rows that stand among others.
+//! Multipliers of rows that are a subsequence of other rows.
 
 ghost use Rattle.std.specs.Prelude.{◌≡◌, ◌↔◌, ◌<◌, ◌≤◌, ◌+◌, ◌^◌, IsTrue, IfOk, drop, length};
 ghost use Rattle.std.specs.List.{All};
@@ -8,14 +8,14 @@ ghost use Rattle.region_split.specs.internal.MovedRows.{ArePlaces, place_of, mov
 use linear_rows::{Row, have_same_terms};
 use std::alloc::{AllocError, Global};
 
-/// Whether the rows are the same.
+/// Returns whether two rows are equal.
 pub fn is_same_row(a: &Row, b: &Row) -> bool
     ensures { IsTrue result ↔ (a.now ≡ b.now) }
 {
     a.rest == b.rest && a.strict == b.strict && have_same_terms(&a.terms, &b.terms)
 }
 
-/// The places of rows that stand among others from a place on.
+/// Returns the indexes of `rows` in `more`, of which they are a subsequence from `from` on.
 pub fn places(
     alloc: Global,
     rows: &[Row],
@@ -38,7 +38,8 @@ pub fn places(
     Ok(places)
 }
 
-/// Where a row stands, once the first rows, as many as are kept, stay where they were and the others stand at these places.
+/// Returns the new index of a row: the first `kept` rows keep their indexes, the others have those
+/// of `places`.
 fn place(index: u32, kept: usize, places: &[u32]) -> u32
     requires { index < kept + length places.now }
     ensures { result ≡ place_of kept places.now index }
@@ -47,7 +48,7 @@ fn place(index: u32, kept: usize, places: &[u32]) -> u32
     if i < kept { index } else { places[i - kept] }
 }
 
-/// The multipliers with the places of their rows as indexes.
+/// Returns `multipliers` with the new indexes of their rows.
 pub fn moved(
     alloc: Global,
     multipliers: &[(u32, u64)],

@@ -1,4 +1,5 @@
-//! The pieces of a cell: where the greedy choice finds no whole number for a variable, the cell is split there.
+//! The pieces of a cell: if the greedy choice finds no integer for a variable, the cell is split
+//! there.
 
 ghost use Rattle.std.specs.Prelude.{◌≡◌, ◌++◌, ◌∷◌, [], IfOk, List, map, true, ℕ};
 ghost use Prim.Native.Nat.{suc};
@@ -9,7 +10,8 @@ ghost use Rattle.linear_form.specs.Query.{Taken as PlainTaken, onto};
 ghost use Rattle.linear_form.specs.Splits.{split_at};
 ghost use Rattle.region_split.specs.Pieces.{IsSplitAt, first_half, second_half};
 ghost use Rattle.region_split.specs.internal.PathFindings.{IsBreakAt};
-ghost use Rattle.region_split.specs.internal.Progress.{IsBroken, IsClosed, IsPieceShown, IsPieceStand};
+ghost use Rattle.region_split.specs.internal.Progress.{IsBroken, IsClosed, IsPieceShown};
+ghost use Rattle.region_split.specs.internal.Progress.{IsPieceStand};
 
 use crate::front::End;
 use crate::growth::{joined_halves, leaf};
@@ -23,31 +25,32 @@ use linear_rows::Row;
 use linear_values::numbers::narrow;
 use std::alloc::{AllocError, Global};
 
-/// A piece isn't split below more splits than these.
+/// The maximum number of splits above a piece.
 const MOST_SPLITS: u32 = 8;
 
-/// What a piece of a cell shows.
+/// The result of a piece of a cell.
 #[derive(Drop)]
 pub enum Piece {
-    /// It has no ends: its tree, none where the whole tree is too deep with it.
+    /// The piece has no ends: its tree, or None if the whole tree would be too deep.
     Closed(Option<Tree>),
-    /// Each of its ends breaks, the first one so.
+    /// The greedy choice breaks at each end of the piece; this is the first break.
     Broke(Box<Broken>),
-    /// The point of its first end that doesn't break.
+    /// The point of the first end at which the greedy choice does not break.
     Given(Vec<Val>),
-    /// There are too many rows, or a number is too great.
+    /// There are more than 4,096 rows, or a number overflows.
     Unknown(Cause),
 }
 
-/// Where a piece is split: its first half has the variable at most the bound, its second half at least the next whole number.
+/// A split of a piece: in the first half the variable is at most `bound`, in the second at least
+/// `bound + 1`.
 #[derive(Clone, Copy)]
 pub struct Split {
     pub variable: u32,
     pub bound: i64,
 }
 
-/// What the piece at this path shows, after so many splits: its rows are solved, and it is split where their greedy choice breaks. Want of
-/// memory is the one error.
+/// Solves the rows of the piece at `path` after `splits` splits, and splits the piece if their
+/// greedy choice breaks.
 #[cycle(splitting)]
 fn piece_shown(
     alloc: Global,
@@ -76,8 +79,8 @@ fn piece_shown(
     }
 }
 
-/// What the piece at this path shows, after so many splits, where the greedy choice for its rows breaks so. Want of memory is the one
-/// error.
+/// Returns the result of the piece at `path` after `splits` splits, for whose rows the greedy
+/// choice breaks as `broken` says.
 #[cycle(splitting)]
 pub fn broken_piece(
     alloc: Global,
@@ -103,8 +106,8 @@ pub fn broken_piece(
     halves(alloc, goal, path, rows, end, splits, &at)
 }
 
-/// What a piece shows that is split here: what its first half shows, and then what its second half does. Behind a point nothing more is
-/// looked at. Want of memory is the one error.
+/// Returns the result of a piece that is split at `at`: first its first half is solved, then its
+/// second. After a point, nothing more is solved.
 #[cycle(splitting)]
 fn halves(
     alloc: Global,
@@ -117,7 +120,8 @@ fn halves(
 ) -> Result<Piece, AllocError>
     requires typed { IsTypedGoal (goal_of goal.now) }
     requires stands { IsPieceStand (goal_of goal.now) splits (path_of path.now) rows.now end.now }
-    requires split { IsSplitAt (goal_of goal.now) splits (path_of path.now) at.now.variable at.now.bound }
+    requires split { IsSplitAt (goal_of goal.now) splits
+        (path_of path.now) at.now.variable at.now.bound }
     ensures { IfOk result (λ p. IsPieceShown (goal_of goal.now) splits (path_of path.now) p) }
 {
     match half(alloc, goal, path, rows, end, splits, at, true)? {
@@ -134,14 +138,18 @@ fn halves(
     }
 }
 
-/// What a piece shows whose first half has no ends, but this tree, and whose second half shows this. Want of memory is the one error.
+/// Returns the result of a piece from those of its halves; the first half has no ends.
 fn behind_closed(
     alloc: Global,
     at: &Split,
     tree: Option<Tree>,
     second: Piece,
 ) -> Result<Piece, AllocError>
-    ensures { (g : PlainGoal) (n : ℕ) (ps : List PlainTaken) → IsSplitAt g n ps at.now.variable at.now.bound → IsClosed g (suc n) (first_half ps at.now.variable at.now.bound) tree → IsPieceShown g (suc n) (second_half ps at.now.variable at.now.bound) second → IfOk result (λ p. IsPieceShown g n ps p) }
+    ensures { (g : PlainGoal) (n : ℕ) (ps : List PlainTaken)
+        → IsSplitAt g n ps at.now.variable at.now.bound
+        → IsClosed g (suc n) (first_half ps at.now.variable at.now.bound) tree
+        → IsPieceShown g (suc n) (second_half ps at.now.variable at.now.bound) second
+        → IfOk result (λ p. IsPieceShown g n ps p) }
 {
     match second {
         Piece::Closed(other) => Ok(Piece::Closed(joined_halves(alloc, at, tree, other)?)),
@@ -151,9 +159,13 @@ fn behind_closed(
     }
 }
 
-/// What a piece shows whose first half breaks so, and whose second half shows this.
+/// Returns the result of a piece from those of its halves; the first half breaks.
 fn behind_broken(at: &Split, first: Box<Broken>, second: Piece) -> Piece
-    ensures { (g : PlainGoal) (n : ℕ) (ps : List PlainTaken) → IsSplitAt g n ps at.now.variable at.now.bound → IsBroken g (suc n) (first_half ps at.now.variable at.now.bound) first.value → IsPieceShown g (suc n) (second_half ps at.now.variable at.now.bound) second → IsPieceShown g n ps result }
+    ensures { (g : PlainGoal) (n : ℕ) (ps : List PlainTaken)
+        → IsSplitAt g n ps at.now.variable at.now.bound
+        → IsBroken g (suc n) (first_half ps at.now.variable at.now.bound) first.value
+        → IsPieceShown g (suc n) (second_half ps at.now.variable at.now.bound) second
+        → IsPieceShown g n ps result }
 {
     match second {
         Piece::Closed(_) => Piece::Broke(first),
@@ -163,7 +175,7 @@ fn behind_broken(at: &Split, first: Box<Broken>, second: Piece) -> Piece
     }
 }
 
-/// What one half of a piece shows that is split here: the first one, or the second one. Want of memory is the one error.
+/// Returns the result of a half of a piece: of the first half if `held`, otherwise of the second.
 #[cycle(splitting)]
 fn half(
     alloc: Global,
@@ -177,8 +189,11 @@ fn half(
 ) -> Result<Piece, AllocError>
     requires typed { IsTypedGoal (goal_of goal.now) }
     requires stands { IsPieceStand (goal_of goal.now) splits (path_of path.now) rows.now end.now }
-    requires split { IsSplitAt (goal_of goal.now) splits (path_of path.now) at.now.variable at.now.bound }
-    ensures { IfOk result (λ p. IsPieceShown (goal_of goal.now) (suc splits) (onto (path_of path.now) (split_at at.now.variable at.now.bound) held) p) }
+    requires split { IsSplitAt (goal_of goal.now) splits
+        (path_of path.now) at.now.variable at.now.bound }
+    ensures { IfOk result (λ p.
+        IsPieceShown (goal_of goal.now) (suc splits)
+        (onto (path_of path.now) (split_at at.now.variable at.now.bound) held) p) }
 {
     let atom = split(alloc, at.variable, at.bound)?;
     let longer = with_answer(alloc, path, Taken { atom, held })?;
@@ -189,16 +204,16 @@ fn half(
     }
 }
 
-/// A path with one more answer. Want of memory is the one error.
+/// Returns `path` with one more answer.
 fn with_answer(alloc: Global, path: &[Taken], answer: Taken) -> Result<Vec<Taken>, AllocError>
-    ensures { IfOk result (λ longer. path_of longer.items ≡ path_of path.now ++ (taken_of answer ∷ [])) }
+    ensures { IfOk result (λ longer. path_of longer.items ≡ path_of path.now
+        ++ (taken_of answer ∷ [])) }
 {
     let mut longer = copy_path(alloc, path)?;
     longer.push(answer)?;
     Ok(longer)
 }
 
-/// The same path again. Want of memory is the one error.
 fn copy_path(alloc: Global, path: &[Taken]) -> Result<Vec<Taken>, AllocError>
     ensures { IfOk result (λ made. map taken_of made.items ≡ map taken_of path.now) }
 {
@@ -209,7 +224,6 @@ fn copy_path(alloc: Global, path: &[Taken]) -> Result<Vec<Taken>, AllocError>
     Ok(made)
 }
 
-/// The same answer again. Want of memory is the one error.
 fn copy_answer(alloc: Global, taken: &Taken) -> Result<Taken, AllocError>
     ensures { IfOk result (λ made. taken_of made ≡ taken_of taken.now) }
 {
@@ -219,7 +233,6 @@ fn copy_answer(alloc: Global, taken: &Taken) -> Result<Taken, AllocError>
     })
 }
 
-/// The same rows again. Want of memory is the one error.
 fn copy_rows(alloc: Global, rows: &[Row]) -> Result<Vec<Row>, AllocError>
     ensures { IfOk result (λ made. made.items ≡ rows.now) }
 {

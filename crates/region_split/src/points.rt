@@ -9,7 +9,6 @@ use heylo_formula::Val;
 use linear_form::{Taken, known_truth};
 use std::alloc::{AllocError, Global};
 
-/// A variable's value, or its truth where the path has decided it.
 fn value_at(path: &[Taken], x: u32, value: Val) -> Val
     ensures { result ≡ value_on (known x (path_of path.now)) value }
 {
@@ -19,7 +18,7 @@ fn value_at(path: &[Taken], x: u32, value: Val) -> Val
     }
 }
 
-/// The values, with the truths of the Booleans that the path has decided. Want of memory is the one error.
+/// Returns `values` with the truths of the Booleans that `path` has decided.
 pub fn with_path(alloc: Global, path: &[Taken], values: &[Val]) -> Result<Vec<Val>, AllocError>
     requires { length values.now < 2 ^ 32 }
     ensures { IfOk result (λ v. v.items ≡ with_truths (path_of path.now) 0 values.now) }

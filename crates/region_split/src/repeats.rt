@@ -1,4 +1,4 @@
-//! Questions that the path has answered before.
+//! Comparisons that the path has answered before.
 
 ghost use Rattle.std.specs.Prelude.{◌<◌, ◌+◌, ◌^◌, List, length, IfOk};
 ghost use Rattle.heylo_formula.specs.Goals.{Goal as PlainGoal, goal_of};
@@ -19,20 +19,21 @@ use heylo_formula::Goal;
 use linear_form::{Atom, Place, Taken, asks_on, repeated_rows_stand};
 use std::alloc::{AllocError, Global};
 
-/// What the path says of its next question.
+/// How the path has answered its next comparison.
 #[derive(Drop)]
 pub enum Repeat {
-    /// It may be new: the trail stands where it did.
+    /// The comparison may be new; the trail is unchanged.
     New(Atom),
-    /// The path has answered it by yes: the trail has this answer.
+    /// The path has answered it with yes, and so does the trail.
     Yes,
-    /// The path has answered it by no: the trail has this answer, and a certificate takes these multipliers at the other one.
+    /// The path has answered it with no, and so does the trail: the multipliers of a certificate at
+    /// the opposite answer.
     No(Vec<(u32, u64)>),
-    /// A number is too great.
+    /// A number overflows.
     Unknown(Cause),
 }
 
-/// What a path says of its next question, which this evaluation asks. Want of memory is the one error.
+/// Returns how the path of `trail` has answered its next comparison `atom`, which `place` asks.
 pub fn repeated(
     alloc: Global,
     goal: &Goal,
@@ -45,7 +46,8 @@ pub fn repeated(
     requires stands { Stands (goal_of goal.now) trail.old }
     requires goes_on { GoesOn (goal_of goal.now) (path_of trail.old.path.items) (atom_of atom) }
     requires on { IsOn (goal_of goal.now) (path_of trail.old.path.items) place.now }
-    ensures { IfOk result (λ r. IsRepeat (goal_of goal.now) (path_of trail.old.path.items) (atom_of atom) trail.new r) }
+    ensures { IfOk result (λ r.
+        IsRepeat (goal_of goal.now) (path_of trail.old.path.items) (atom_of atom) trail.new r) }
 {
     if !is_comparison(&atom) {
         return Ok(Repeat::New(atom));
@@ -63,7 +65,6 @@ pub fn repeated(
     }
 }
 
-/// The same, where the walk has met the question, which has this number.
 fn met_again(
     alloc: Global,
     goal: &Goal,
@@ -78,7 +79,8 @@ fn met_again(
     requires goes_on { GoesOn (goal_of goal.now) (path_of trail.old.path.items) (atom_of atom) }
     requires number { IsNumber trail.old.atoms (atom_of atom) number }
     requires on { IsOn (goal_of goal.now) (path_of trail.old.path.items) place.now }
-    ensures { IfOk result (λ r. IsRepeat (goal_of goal.now) (path_of trail.old.path.items) (atom_of atom) trail.new r) }
+    ensures { IfOk result (λ r.
+        IsRepeat (goal_of goal.now) (path_of trail.old.path.items) (atom_of atom) trail.new r) }
 {
     let lasts = asks_on(place, trail.path.len());
     match trail.atoms.recall(number, &trail.rows) {
@@ -87,7 +89,7 @@ fn met_again(
     }
 }
 
-/// Goes on by the answer that the path has given to the question before.
+/// Repeats the answer that the path has given before.
 fn again(
     alloc: Global,
     trail: &mut Trail,
@@ -96,7 +98,9 @@ fn again(
 ) -> Result<Repeat, AllocError>
     requires few { length trail.old.rows.items < 2 ^ 32 }
     requires inside { recalled.index < length trail.old.rows.items }
-    ensures { (g : PlainGoal) (ps : List PlainTaken) → IsAsked g ps (atom_of atom) → StandsAt g ps trail.old → IsRecalled g.types trail.old.rows.items (atom_of atom) recalled → IfOk result (λ r. IsRepeat g ps (atom_of atom) trail.new r) }
+    ensures { (g : PlainGoal) (ps : List PlainTaken) → IsAsked g ps (atom_of atom)
+        → StandsAt g ps trail.old → IsRecalled g.types trail.old.rows.items (atom_of atom) recalled
+        → IfOk result (λ r. IsRepeat g ps (atom_of atom) trail.new r) }
 {
     repeated_rows_stand();
     let row = copy_row(alloc, &trail.rows[recalled.index])?;

@@ -1,4 +1,4 @@
-//! What the rows of a path come to.
+//! The solutions of the rows of a path.
 
 ghost use Rattle.std.specs.Prelude.{◌≡◌, ◌<◌, ◌^◌, List, take, length, Bool, IfOk, Some};
 ghost use Rattle.heylo_formula.specs.Goals.{Goal as PlainGoal};
@@ -18,33 +18,33 @@ use linear_guess::{Finding, Search};
 use linear_rows::Row;
 use std::alloc::{AllocError, Global};
 
-/// What the rows of a path come to.
+/// The solution of rows.
 #[derive(Drop)]
 pub enum Solved {
-    /// No fractions meet them: multipliers by row index, which combine them to a contradiction.
+    /// The rows have no solution: multipliers, by row index, combine them to a contradiction.
     Refuted(Vec<(u32, u64)>),
-    /// Their greedy point.
+    /// The greedy point of the rows.
     Point(Vec<Val>),
-    /// The greedy choice finds no whole number for a variable.
+    /// The greedy choice finds no integer for a variable.
     Break(Broken),
-    /// There are too many rows, or a number is too great.
+    /// There are more than 4,096 rows, or a number overflows.
     Unknown(Cause),
 }
 
-/// Whether some fractions meet the rows of a path.
+/// Whether rows have a solution.
 #[derive(Drop)]
 pub enum Settled {
-    /// None do: multipliers by row index, which combine them to a contradiction.
+    /// They have none: multipliers, by row index, combine them to a contradiction.
     Refuted(Vec<(u32, u64)>),
-    /// Some do.
+    /// They have one.
     Met,
-    /// There are too many rows, or a number is too great.
+    /// There are more than 4,096 rows, or a number overflows.
     Unknown(Cause),
 }
 
-/// Whether some fractions meet the rows, where they are solved.
 fn settled_by(solved: Solved) -> Settled
-    ensures { (g : PlainGoal) (ps : List PlainTaken) (denied : Bool) → IsSolved g ps denied solved → IsSettledAs g ps denied result }
+    ensures { (g : PlainGoal) (ps : List PlainTaken) (denied : Bool) → IsSolved g ps denied solved
+        → IsSettledAs g ps denied result }
 {
     match solved {
         Solved::Refuted(multipliers) => Settled::Refuted(multipliers),
@@ -54,8 +54,8 @@ fn settled_by(solved: Solved) -> Settled
     }
 }
 
-/// Solves rows: by what is found of them, else by eliminating. The search remembers the first rows, as many as are kept. Want of
-/// memory is the one error.
+/// Solves the rows `list`: by a proposal of `search`, or otherwise by elimination. `search` keeps
+/// what it knows of the first `kept` rows.
 pub fn solve(
     alloc: Global,
     list: &[Row],
@@ -68,7 +68,9 @@ pub fn solve(
     requires few { length list.now < 2 ^ 32 }
     requires few_variables { length vars.now < 2 ^ 32 }
     requires remembered { Remembers search.old list.now }
-    ensures solved { (g : PlainGoal) (ps : List PlainTaken) (denied : Bool) → rows_of g ps denied ≡ Some list.now → g.types ≡ vars.now → IfOk result (λ s. IsSolved g ps denied s) }
+    ensures solved { (g : PlainGoal) (ps : List PlainTaken) (denied : Bool)
+        → rows_of g ps denied ≡ Some list.now → g.types ≡ vars.now
+        → IfOk result (λ s. IsSolved g ps denied s) }
     ensures remembered { Remembers search.new (take kept list.now) }
 {
     match search.find(alloc, list, kept, vars.len())? {
@@ -78,8 +80,8 @@ pub fn solve(
     }
 }
 
-/// Whether some fractions meet rows: by what is found of them, else by eliminating. The search remembers the first rows, as many as
-/// are kept. Want of memory is the one error.
+/// Returns whether the rows `list` have a solution: by a proposal of `search`, or otherwise by
+/// elimination. `search` keeps what it knows of the first `kept` rows.
 pub fn settle(
     alloc: Global,
     list: &[Row],
@@ -92,7 +94,9 @@ pub fn settle(
     requires few { length list.now < 2 ^ 32 }
     requires few_variables { length vars.now < 2 ^ 32 }
     requires remembered { Remembers search.old list.now }
-    ensures settled { (g : PlainGoal) (ps : List PlainTaken) (denied : Bool) → rows_of g ps denied ≡ Some list.now → g.types ≡ vars.now → IfOk result (λ s. IsSettledAs g ps denied s) }
+    ensures settled { (g : PlainGoal) (ps : List PlainTaken) (denied : Bool)
+        → rows_of g ps denied ≡ Some list.now → g.types ≡ vars.now
+        → IfOk result (λ s. IsSettledAs g ps denied s) }
     ensures remembered { Remembers search.new (take kept list.now) }
 {
     match search.find(alloc, list, kept, vars.len())? {
@@ -102,20 +106,23 @@ pub fn settle(
     }
 }
 
-/// Eliminates rows. Want of memory is the one error.
+/// Solves the rows `list` by elimination.
 pub fn solve_rows(alloc: Global, list: &[Row], vars: &[Ty]) -> Result<Solved, AllocError>
     requires rows { All IsRow list.now }
     requires numeric { All (IsNumericRow vars.now) list.now }
     requires few { length list.now < 2 ^ 32 }
     requires few_variables { length vars.now < 2 ^ 32 }
-    ensures { (g : PlainGoal) (ps : List PlainTaken) (denied : Bool) → rows_of g ps denied ≡ Some list.now → g.types ≡ vars.now → IfOk result (λ s. IsSolved g ps denied s) }
+    ensures { (g : PlainGoal) (ps : List PlainTaken) (denied : Bool)
+        → rows_of g ps denied ≡ Some list.now → g.types ≡ vars.now
+        → IfOk result (λ s. IsSolved g ps denied s) }
 {
     Ok(told(eliminate(alloc, list, vars)?))
 }
 
-/// What the answer of the elimination says of a path whose rows it was asked for.
 fn told(answer: Elim) -> Solved
-    ensures { (g : PlainGoal) (ps : List PlainTaken) (denied : Bool) (list : List PlainRow) → rows_of g ps denied ≡ Some list → IsAnswer list g.types answer → IsSolved g ps denied result }
+    ensures { (g : PlainGoal) (ps : List PlainTaken) (denied : Bool) (list : List PlainRow)
+        → rows_of g ps denied ≡ Some list → IsAnswer list g.types answer
+        → IsSolved g ps denied result }
 {
     match answer {
         Elim::NoSolution(multipliers) => Solved::Refuted(multipliers),

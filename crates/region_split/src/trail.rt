@@ -1,12 +1,14 @@
-//! The path of a walk, and what is kept along it.
+//! The path of a walk, with the data that is kept along it.
 
-ghost use Rattle.std.specs.Prelude.{◌≡◌, ◌<◌, ◌++◌, ◌∷◌, List, [], length, Bool, IfOk, IfSome, IsTrue};
+ghost use Rattle.std.specs.Prelude.{◌≡◌, ◌<◌, ◌++◌, ◌∷◌, List, [], length, Bool, IfOk, IfSome};
+ghost use Rattle.std.specs.Prelude.{IsTrue};
 ghost use Rattle.heylo_formula.specs.Goals.{Goal as PlainGoal, goal_of};
 ghost use Rattle.linear_form.specs.PathRows.{answer_claims};
 ghost use Rattle.linear_form.specs.PlainPaths.{path_of, atom_of, taken_of};
 ghost use Rattle.linear_form.specs.Query.{Taken as PlainTaken};
 ghost use Rattle.linear_form.specs.RowLists.{ArePathRows};
-ghost use Rattle.region_split.specs.internal.Trails.{Comes, Rises, Stands, StandsAt, IsWay, IsBack, ComesBy};
+ghost use Rattle.region_split.specs.internal.Trails.{Comes, Rises, Stands, StandsAt, IsWay, IsBack};
+ghost use Rattle.region_split.specs.internal.Trails.{ComesBy};
 
 use crate::atoms::Atoms;
 use heylo_formula::Goal;
@@ -15,34 +17,35 @@ use linear_guess::Search;
 use linear_rows::{Occurrences, Row};
 use std::alloc::{AllocError, Global};
 
-/// What is kept of an answered question.
+/// The data kept for an answered comparison.
 #[derive(Drop)]
 pub enum Way {
-    /// The evaluation that asked it.
+    /// The evaluation that asked the comparison.
     Open(Place),
-    /// The path had answered it before, so the walk doesn't visit the other answer. Where this one is yes, these are the
-    /// multipliers that a certificate takes at the other one.
+    /// The path had answered the comparison before, so the walk does not visit the opposite answer.
+    /// If this answer is yes, these are the multipliers of a certificate at the opposite answer.
     Closed(Vec<(u32, u64)>),
 }
 
-/// The path of a walk, and what is kept along it.
+/// The path of a walk, with the data that is kept along it.
 #[derive(Drop)]
 pub struct Trail {
-    /// The questions that are answered.
+    /// The answered comparisons.
     pub path: Vec<Taken>,
-    /// The evaluation before the first question, and then what is kept of each answered question.
+    /// The evaluation before the first comparison, followed by the data of each answered
+    /// comparison.
     pub places: Vec<Way>,
     /// The rows of the answers, in order.
     pub rows: Vec<Row>,
-    /// The comparisons that the walk has met.
+    /// The comparisons that the walk has asked.
     pub atoms: Atoms,
-    /// Where the variables occur first in these rows.
+    /// The first row in which each variable occurs.
     pub occurrences: Occurrences,
-    /// What was found of the rows.
+    /// The points and multipliers found for the rows.
     pub search: Box<Search>,
 }
 
-/// The trail before the first question. Want of memory is the one error.
+/// Returns the trail before the first comparison.
 pub fn start(alloc: Global, goal: &Goal) -> Result<Trail, AllocError>
     ensures { IfOk result (λ t. Comes (goal_of goal.now) t × (path_of t.path.items ≡ [])) }
 {
@@ -58,10 +61,12 @@ pub fn start(alloc: Global, goal: &Goal) -> Result<Trail, AllocError>
     })
 }
 
-/// Takes an answer to a question, of which this is kept, onto the trail, and forgets what was found of rows that are taken off. The
-/// answer has no row yet. Want of memory is the one error.
+/// Appends `answer` with its data `way`, and removes what is known of rows that are no part of the
+/// path. The answer has no row yet.
 pub fn onward(trail: &mut Trail, answer: Taken, way: Way) -> Result<(), AllocError>
-    ensures { (g : PlainGoal) → Rises g trail.old → IsWay g (path_of trail.old.path.items) (taken_of answer) way → IfOk result (λ _. ComesBy g trail.old answer trail.new) }
+    ensures { (g : PlainGoal) → Rises g trail.old
+        → IsWay g (path_of trail.old.path.items) (taken_of answer) way
+        → IfOk result (λ _. ComesBy g trail.old answer trail.new) }
 {
     let count = trail.rows.len();
     trail.occurrences.truncate(count);
@@ -71,9 +76,13 @@ pub fn onward(trail: &mut Trail, answer: Taken, way: Way) -> Result<(), AllocErr
     Ok(())
 }
 
-/// Takes an answer to a question, of which this is kept, onto the trail, and the answer's row. Want of memory is the one error.
+/// Appends `answer` with its data `way` and its row.
 pub fn further(trail: &mut Trail, answer: Taken, way: Way, row: Row) -> Result<(), AllocError>
-    ensures { (g : PlainGoal) (ps : List PlainTaken) → Stands g trail.old → ps ≡ path_of trail.old.path.items ++ (taken_of answer ∷ []) → IsWay g (path_of trail.old.path.items) (taken_of answer) way → ArePathRows g ps (trail.old.rows.items ++ (row ∷ [])) → IfOk result (λ _. StandsAt g ps trail.new) }
+    ensures { (g : PlainGoal) (ps : List PlainTaken) → Stands g trail.old
+        → ps ≡ path_of trail.old.path.items ++ (taken_of answer ∷ [])
+        → IsWay g (path_of trail.old.path.items) (taken_of answer) way
+        → ArePathRows g ps (trail.old.rows.items ++ (row ∷ []))
+        → IfOk result (λ _. StandsAt g ps trail.new) }
 {
     let count = trail.rows.len();
     trail.path.push(answer)?;
@@ -83,7 +92,7 @@ pub fn further(trail: &mut Trail, answer: Taken, way: Way, row: Row) -> Result<(
     Ok(())
 }
 
-/// Whether a question is a comparison, whose answers have a row.
+/// Returns whether `atom` compares numbers, so that its answers have a row.
 pub fn is_comparison(atom: &Atom) -> bool
     ensures { (held : Bool) → IsTrue result → length (answer_claims (atom_of atom.now) held) ≡ 1 }
 {
@@ -93,7 +102,7 @@ pub fn is_comparison(atom: &Atom) -> bool
     }
 }
 
-/// How many rows an answer has: one where it is to a comparison, none where it is to the truth of a variable.
+/// Returns the number of rows of an answer to `atom`: 1 for numbers, 0 for a Boolean.
 fn row_count(atom: &Atom) -> usize
     ensures { (held : Bool) → length (answer_claims (atom_of atom.now) held) ≡ result }
 {
@@ -103,10 +112,11 @@ fn row_count(atom: &Atom) -> usize
     }
 }
 
-/// Takes off the last answer, with its row. Gives the answer and what was kept of its question.
+/// Removes the last answer and its row, and returns the answer with its data.
 pub fn back(trail: &mut Trail) -> Option<(Taken, Way)>
     ensures back { (g : PlainGoal) → Rises g trail.old → IsBack g trail.old trail.new result }
-    ensures shorter { IfSome result (λ _. length trail.new.path.items < length trail.old.path.items) }
+    ensures shorter { IfSome result
+        (λ _. length trail.new.path.items < length trail.old.path.items) }
 {
     let Some(answer) = trail.path.pop() else {
         return None;

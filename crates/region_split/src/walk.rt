@@ -1,4 +1,4 @@
-//! The walk through the questions of a goal.
+//! The walk through the comparisons of a goal.
 
 ghost use Rattle.std.specs.Prelude.{◌≡◌, ◌<◌, ◌≤◌, List, [], length, IfOk, None, false};
 ghost use Rattle.heylo_formula.specs.Goals.{Goal as PlainGoal, goal_of};
@@ -8,7 +8,8 @@ ghost use Rattle.linear_form.specs.Nonlinear.{nonlinear_product};
 ghost use Rattle.heylo_formula.specs.TypedGoals.{IsTypedGoal};
 ghost use Rattle.region_split.specs.Decisions.{IsDecision};
 ghost use Rattle.region_split.specs.internal.PathFindings.{IsEndOf};
-ghost use Rattle.region_split.specs.internal.Progress.{AreShort, IsWalk, IsStandingWalk, IsFinishedWalk, IsStep, IsFound, IsBranch};
+ghost use Rattle.region_split.specs.internal.Progress.{AreShort, IsWalk, IsStandingWalk};
+ghost use Rattle.region_split.specs.internal.Progress.{IsFinishedWalk, IsStep, IsFound, IsBranch};
 
 use crate::ascent::{Up, climb};
 use crate::cell::{Cell, judge};
@@ -22,11 +23,11 @@ use heylo_formula::Goal;
 use linear_form::{Atom, Place, RowList, with_denied_goal};
 use std::alloc::{AllocError, Global};
 
-/// More cells than these end a walk.
+/// The maximum number of cells of a walk.
 const MOST_CELLS: u32 = 4096;
 
-/// Where a walk stands: its trail, the trees of the finished branches to its left, how many cells there were before, and what
-/// they have shown.
+/// The state of a walk: its trail, the trees of the finished branches to its left, the number of
+/// cells before, and their results.
 #[derive(Drop)]
 pub struct Walk {
     pub trail: Trail,
@@ -35,18 +36,19 @@ pub struct Walk {
     pub found: Found,
 }
 
-/// What one path comes to.
+/// The result of visiting a path.
 #[derive(Drop)]
 pub enum Step {
-    /// The walk goes on: it comes to a front.
+    /// The walk continues at a path that is not classified yet.
     On,
-    /// The walk goes on: it stands at a front that is kept, with its question and the evaluation that asks it.
+    /// The walk continues at a path with solvable rows: its next comparison, and the evaluation
+    /// that asks it.
     Asks(Atom, Place),
     /// The goal is decided.
     Done(Decision),
 }
 
-/// Walks through the questions of a goal. Want of memory is the one error.
+/// Decides a goal without nonlinear products by a walk through its comparisons.
 pub fn walked(alloc: Global, goal: &Goal) -> Result<Decision, AllocError>
     requires typed { IsTypedGoal (goal_of goal.now) }
     requires short { AreShort (goal_of goal.now) }
@@ -69,13 +71,14 @@ pub fn walked(alloc: Global, goal: &Goal) -> Result<Decision, AllocError>
     }
 }
 
-/// Looks at the front that the walk comes to, and goes on to the next one.
+/// Classifies the path of the walk, and continues to the next one.
 fn visit(alloc: Global, goal: &Goal, walk: &mut Walk) -> Result<Step, AllocError>
     requires typed { IsTypedGoal (goal_of goal.now) }
     requires short { AreShort (goal_of goal.now) }
     requires linear { nonlinear_product (goal_of goal.now) ≡ None }
     requires comes { IsWalk (goal_of goal.now) walk.old }
-    ensures { IfOk result (λ s. IsStep (goal_of goal.now) (path_of walk.old.trail.path.items) walk.new s) }
+    ensures { IfOk result (λ s.
+        IsStep (goal_of goal.now) (path_of walk.old.trail.path.items) walk.new s) }
 {
     match look(alloc, goal, &mut walk.trail)? {
         Front::Dropped(multipliers) => {
@@ -88,14 +91,15 @@ fn visit(alloc: Global, goal: &Goal, walk: &mut Walk) -> Result<Step, AllocError
     }
 }
 
-/// Counts a cell and looks at it.
+/// Counts a cell and decides it.
 pub fn end(alloc: Global, goal: &Goal, walk: &mut Walk, ends: End) -> Result<Step, AllocError>
     requires typed { IsTypedGoal (goal_of goal.now) }
     requires short { AreShort (goal_of goal.now) }
     requires linear { nonlinear_product (goal_of goal.now) ≡ None }
     requires stands { IsStandingWalk (goal_of goal.now) walk.old }
     requires at_end { IsEndOf (goal_of goal.now) (path_of walk.old.trail.path.items) ends }
-    ensures { IfOk result (λ s. IsStep (goal_of goal.now) (path_of walk.old.trail.path.items) walk.new s) }
+    ensures { IfOk result (λ s.
+        IsStep (goal_of goal.now) (path_of walk.old.trail.path.items) walk.new s) }
 {
     if walk.count >= MOST_CELLS {
         return Ok(Step::Done(Decision::Unknown(Cause::Cells(MOST_CELLS + 1))));
@@ -108,7 +112,7 @@ pub fn end(alloc: Global, goal: &Goal, walk: &mut Walk, ends: End) -> Result<Ste
     finish(alloc, walk, tree)
 }
 
-/// Looks at a cell that isn't plain.
+/// Decides a cell at which the goal does not hold trivially.
 fn denied_end(alloc: Global, goal: &Goal, walk: &mut Walk, ends: End) -> Result<Step, AllocError>
     requires typed { IsTypedGoal (goal_of goal.now) }
     requires short { AreShort (goal_of goal.now) }
@@ -117,7 +121,8 @@ fn denied_end(alloc: Global, goal: &Goal, walk: &mut Walk, ends: End) -> Result<
     requires at_end { IsEndOf (goal_of goal.now) (path_of walk.old.trail.path.items) ends }
     requires not_plain { ends.plain ≡ false }
     requires few { walk.old.count < 4096 }
-    ensures { IfOk result (λ s. IsStep (goal_of goal.now) (path_of walk.old.trail.path.items) walk.new s) }
+    ensures { IfOk result (λ s.
+        IsStep (goal_of goal.now) (path_of walk.old.trail.path.items) walk.new s) }
 {
     let found = std::mem::replace(&mut walk.found, Found::Nothing);
     let trail = &mut walk.trail;
@@ -148,9 +153,9 @@ fn denied_end(alloc: Global, goal: &Goal, walk: &mut Walk, ends: End) -> Result<
     }
 }
 
-/// Goes up from a finished path, whose tree this is, and on to the next one.
 fn finish(alloc: Global, walk: &mut Walk, tree: Option<Tree>) -> Result<Step, AllocError>
-    ensures { (g : PlainGoal) → nonlinear_product g ≡ None → IsFinishedWalk g walk.old tree → IfOk result (λ s. IsStep g (path_of walk.old.trail.path.items) walk.new s) }
+    ensures { (g : PlainGoal) → nonlinear_product g ≡ None → IsFinishedWalk g walk.old tree
+        → IfOk result (λ s. IsStep g (path_of walk.old.trail.path.items) walk.new s) }
 {
     match climb(alloc, &mut walk.trail, &mut walk.trees, tree)? {
         Up::Next => Ok(Step::On),
@@ -161,9 +166,10 @@ fn finish(alloc: Global, walk: &mut Walk, tree: Option<Tree>) -> Result<Step, Al
     }
 }
 
-/// The decision of a goal all of whose cells are walked.
+/// Returns the decision after all cells are walked.
 fn decided(found: Found, tree: Option<Tree>) -> Decision
-    ensures { (g : PlainGoal) (all : List (List PlainTaken)) → nonlinear_product g ≡ None → IsFound g all found → length all ≤ 4096 → IsBranch g [] all tree → IsDecision g result }
+    ensures { (g : PlainGoal) (all : List (List PlainTaken)) → nonlinear_product g ≡ None
+        → IsFound g all found → length all ≤ 4096 → IsBranch g [] all tree → IsDecision g result }
 {
     match found {
         Found::Nothing => Decision::Proved(tree),
