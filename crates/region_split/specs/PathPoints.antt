@@ -1,4 +1,5 @@
--- What the greedy choice for the rows of a path with the denied goal comes to. This project's own.
+-- The result of the greedy choice for the rows of a path with the denied goal. The choice *breaks*
+-- at a variable whose interval contains no integer. This project's own.
 use Rattle.std.specs.Prelude.{◌≡◌, ℕ, List, [], ◌∷◌, true, Bool, Option, Some, None}
 use Prim.Native.Nat.{suc}
 use Rattle.std.specs.List.{All}
@@ -16,17 +17,19 @@ use Rattle.linear_rows.specs.GreedyPoint.{Interval, Greedy, ChoosesFrom, IsGreed
 use Rattle.linear_rows.specs.Row.{Row}
 use Rattle.linear_rows.specs.Solutions.{IsSolvable}
 
--- A Boolean that the path has decided has its truth.
+-- `value_on b v`: the truth `b` of a Boolean that the path has decided, otherwise the value `v`.
 abbrev pub value_on : Option Bool → Val → Val
 value_on (Some b) v = Truth b
 value_on None v = v
 
--- The values from a variable on.
+-- `with_truths ps x vs`: the values `vs` of the variables from `x` on, with the truths that the
+-- path `ps` has decided.
 abbrev pub with_truths : List Taken → ℕ → List Val → List Val
 with_truths ps x [] = []
 with_truths ps x (v ∷ vs) = value_on (known x ps) v ∷ with_truths ps (suc x) vs
 
--- The rows of a path with the denied goal are solvable, and this is their greedy point, with the truths of the path.
+-- `IsPointOf g ps point`: the rows of the path `ps` with the denied goal are solvable, and `point`
+-- is their greedy point, with the truths that the path has decided.
 pub record IsPointOf (g : Goal) (ps : List Taken) (point : List Val) : Type 0 where
   pub rows : List Row
   pub are_rows : rows_of g ps true ≡ Some rows
@@ -34,14 +37,16 @@ pub record IsPointOf (g : Goal) (ps : List Taken) (point : List Val) : Type 0 wh
   pub greedy : IsGreedyPoint rows g.types values
   pub truths : point ≡ with_truths ps 0 values
 
--- The greedy choice for a path's rows with the denied goal breaks, as told, after values of the variables' types.
+-- `IsBreakOf g ps b`: the greedy choice for the rows of the path `ps` with the denied goal breaks
+-- as `b` says, and the values before the break have the types of their variables.
 pub record IsBreakOf (g : Goal) (ps : List Taken) (b : Broken) : Type 0 where
   pub rows : List Row
   pub are_rows : rows_of g ps true ≡ Some rows
   pub broken : IsBreak rows g.types b
   pub typed : All (λ c. has (types_in g.types c.0) c.1 ≡ true) b.earlier.items
 
--- The rows of a path with the denied goal are solvable, and their greedy choice breaks.
+-- `Breaks g ps`: the rows of the path `ps` with the denied goal are solvable, and the greedy choice
+-- for them breaks.
 pub record Breaks (g : Goal) (ps : List Taken) : Type 0 where
   pub rows : List Row
   pub are_rows : rows_of g ps true ≡ Some rows

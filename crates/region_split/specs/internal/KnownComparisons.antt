@@ -1,5 +1,6 @@
--- Comparisons that are known with the rows of both answers.
-use Rattle.std.specs.Prelude.{◌≡◌, ℕ, ◌<◌, List, [], ◌∷◌, length, Bool, true, false, not, Some, get_or}
+-- Comparisons whose rows for both answers are known.
+use Rattle.std.specs.Prelude.{◌≡◌, ℕ, ◌<◌, List, [], ◌∷◌, length, Bool, true, false, not, Some}
+use Rattle.std.specs.Prelude.{get_or}
 use Rattle.std.specs.List.{All}
 use Rattle.heylo_formula.specs.Typing.{types_in}
 use Rattle.heylo_formula.specs.declared.types.Ty.{Ty}
@@ -16,11 +17,12 @@ use Rattle.region_split.specs.declared.known_comparisons.Recalled.{Recalled}
 abbrev pub question_of : Known → Atom
 question_of k = Atom.row (lin_of k.left) k.strict
 
--- The answer to the question has this row and no other.
+-- `IsRowOf types q held r`: `r` is the row of the answer `held` to the comparison `q`.
 abbrev pub IsRowOf : List Ty → Atom → Bool → Row → Type 0
 IsRowOf types q held r = all_tightened (types_in types) (answer_claims q held) ≡ Some (r ∷ [])
 
--- The rows are those of the two answers to the question, and nothing meets both.
+-- `IsKnownQuestion types k`: the rows of `k` are those of the two answers to its comparison, and
+-- they exclude each other.
 pub record IsKnownQuestion (types : List Ty) (k : Known) : Type 0 where
   pub yes : IsRowOf types (question_of k) true k.yes
   pub no : IsRowOf types (question_of k) false k.no
@@ -30,11 +32,12 @@ pub record IsKnownQuestion (types : List Ty) (k : Known) : Type 0 where
 abbrev pub AreKnown : List Ty → List Known → Type 0
 AreKnown types ks = All (IsKnownQuestion types) ks
 
--- The comparison of this number asks the question.
+-- `IsNumber ks q n`: number `n` of `ks` is the comparison `q`.
 abbrev pub IsNumber : List Known → Atom → ℕ → Type 0
 IsNumber ks q n = (d : Known) → question_of (get_or ks n d) ≡ q
 
--- The row at the index is that of this answer to the question, and it clashes with the row of the other answer.
+-- `IsRecalled types rows q r`: the row at the index of `r` is that of its answer to the comparison
+-- `q`, and it excludes the row of the opposite answer.
 pub record IsRecalled (types : List Ty) (rows : List Row) (q : Atom) (r : Recalled) : Type 0 where
   pub inside : r.index < length rows
   pub own : IsRowOf types q r.held (row_at rows r.index)

@@ -1,5 +1,6 @@
--- What the program finds at a path of the walk.
-use Rattle.std.specs.Prelude.{◌≡◌, ℕ, ◌↔◌, ◌<◌, ◌^◌, List, length, Bool, true, false, Some, None, IsTrue}
+-- The program's results at a path of the walk.
+use Rattle.std.specs.Prelude.{◌≡◌, ℕ, ◌↔◌, ◌<◌, ◌^◌, List, length, Bool, true, false, Some, None}
+use Rattle.std.specs.Prelude.{IsTrue}
 use Rattle.heylo_formula.specs.Goals.{Goal}
 use Rattle.heylo_formula.specs.declared.values.Val.{Val}
 use Rattle.linear_form.specs.Query.{Query, Taken}
@@ -34,36 +35,40 @@ use Rattle.region_split.specs.declared.front.End as E
 use Rattle.region_split.specs.declared.front.Front.{Front}
 use Rattle.region_split.specs.declared.front.Front.TheVariants.{Dropped, Question, End, Unknown}
 
--- The rows of the path, such that they can be solved.
+-- `AreRowsAt g ps denied rows`: `rows` are the rows of the path `ps`, and satisfy the preconditions
+-- of the solver.
 pub record AreRowsAt (g : Goal) (ps : List Taken) (denied : Bool) (rows : List Row) : Type 0 where
   pub are_rows : rows_of g ps denied ≡ Some rows
   pub normal : All IsRow rows
   pub numeric : All (IsNumericRow g.types) rows
   pub few : length rows < 2 ^ 32
 
--- The rows of the path are solvable, and this is their greedy point.
+-- `IsPointAt g ps denied point`: the rows of the path `ps` are solvable, and `point` is their
+-- greedy point.
 pub record IsPointAt (g : Goal) (ps : List Taken) (denied : Bool) (point : List Val) : Type 0 where
   pub rows : List Row
   pub are_rows : rows_of g ps denied ≡ Some rows
   pub solvable : IsSolvable rows
   pub greedy : IsGreedyPoint rows g.types point
 
--- The rows of the path are solvable, and their greedy choice breaks at `b`, between ends below 2^62.
+-- `IsBreakAt g ps denied b`: the rows of the path `ps` are solvable, and the greedy choice for them
+-- breaks as `b` says, between ends with numbers below 2^62.
 pub record IsBreakAt (g : Goal) (ps : List Taken) (denied : Bool) (b : Broken) : Type 0 where
   pub rows : List Row
   pub are_rows : rows_of g ps denied ≡ Some rows
   pub broken : IsBreak rows g.types b
   pub narrow : HasNarrowEnds b
 
--- The walk looks at these rows of a path, with these cells before it: at those without the denied goal at a front that it reaches, at
--- those with it at a piece of a cell.
+-- `Looks g ps denied cells`: after the cells `cells`, the walk solves the rows of the path `ps`:
+-- without the denied goal at a front, with it at a piece.
 abbrev pub Looks : Goal → List Taken → Bool → List (List Taken) → Type 0
 Looks g ps false cells = IsReached g ps cells
 Looks g ps true cells = (n : ℕ) × IsLookedAt g n ps cells
 
--- The cause ends the walk, where it looks at these rows.
+-- `EndsWalk g ps denied cause`: if the walk solves these rows, `cause` ends it.
 abbrev pub EndsWalk : Goal → List Taken → Bool → Cause → Type 0
-EndsWalk g ps denied cause = (cells : List (List Taken)) → Looks g ps denied cells → nonlinear_product g ≡ None → IsCause g cause
+EndsWalk g ps denied cause = (cells : List (List Taken)) → Looks g ps denied cells
+    → nonlinear_product g ≡ None → IsCause g cause
 
 abbrev pub IsSolved : Goal → List Taken → Bool → Solved → Type 0
 IsSolved g ps denied (Refuted ms) = IsRefutedWith g ps denied ms.items
@@ -71,7 +76,7 @@ IsSolved g ps denied (Point point) = IsPointAt g ps denied point.items
 IsSolved g ps denied (Break b) = IsBreakAt g ps denied b
 IsSolved g ps denied (S.Unknown cause) = EndsWalk g ps denied cause
 
--- There are rows of the path, and some fractions meet them.
+-- `IsMetAt g ps denied`: the rows of the path `ps` have a solution.
 pub record IsMetAt (g : Goal) (ps : List Taken) (denied : Bool) : Type 0 where
   pub rows : List Row
   pub are_rows : rows_of g ps denied ≡ Some rows
@@ -82,14 +87,15 @@ IsSettledAs g ps denied (D.Refuted ms) = IsRefutedWith g ps denied ms.items
 IsSettledAs g ps denied D.Met = IsMetAt g ps denied
 IsSettledAs g ps denied (D.Unknown cause) = EndsWalk g ps denied cause
 
--- The path is kept, and no question is left there; the flag tells whether the goal holds plainly.
+-- `IsEnd g ps plain`: the path `ps` is kept and at an end; `plain` is whether the goal holds
+-- trivially there.
 pub record IsEnd (g : Goal) (ps : List Taken) (plain : Bool) : Type 0 where
   pub kept : IsKeptPath g ps
   pub ends : Ends
   pub at_end : end_at g ps ≡ Query.done ends
   pub holds_plainly : IsTrue plain ↔ IsPlainAt g ps
 
--- The same, with the values of the two forms there.
+-- `IsEndOf g ps e`: the path `ps` is kept and at the end `e`.
 pub record IsEndOf (g : Goal) (ps : List Taken) (e : E.End) : Type 0 where
   pub is_end : IsEnd g ps e.plain
   pub values : Answers (K.TheVariants.End e.stated e.found) (end_at g ps)

@@ -1,4 +1,4 @@
--- A question whose row the path has already.
+-- Comparisons that the path has answered before.
 use Rattle.std.specs.Prelude.{◌≡◌, List, [], ◌∷◌, ◌++◌, Bool, true, false, None}
 use Rattle.heylo_formula.specs.Goals.{Goal}
 use Rattle.heylo_formula.specs.Typing.{types_in}
@@ -22,23 +22,31 @@ use Rattle.region_split.specs.declared.answer_rows.Both.TheVariants as B
 use Rattle.region_split.specs.declared.repeats.Repeat.{Repeat}
 use Rattle.region_split.specs.declared.repeats.Repeat.TheVariants.{New, Yes, No, Unknown}
 
--- The path and its rows are as they were, and this is the row of the answer.
-pub record HasAnswerRow (g : Goal) (path : List T.Taken) (rows : List Row) (answer : T.Taken) (path_after : List T.Taken) (rows_after : List Row) (row : Row) : Type 0 where
+-- `HasAnswerRow`: the path and its rows are unchanged, and `row` is the row of `answer`.
+pub record HasAnswerRow (g : Goal) (path : List T.Taken) (rows : List Row) (answer : T.Taken)
+    (path_after : List T.Taken) (rows_after : List Row) (row : Row) : Type 0 where
   pub same_path : path_after ≡ path
   pub same_rows : rows_after ≡ rows
   pub are_rows : ArePathRows g (path_of path ++ (taken_of answer ∷ [])) (rows ++ (row ∷ []))
 
--- The path is as it was, and the row of the answer can't be stated.
-pub record LacksAnswerRow (g : Goal) (path : List T.Taken) (answer : T.Taken) (path_after : List T.Taken) : Type 0 where
+-- `LacksAnswerRow`: the path is unchanged, and the row of `answer` overflows.
+pub record LacksAnswerRow (g : Goal) (path : List T.Taken) (answer : T.Taken)
+    (path_after : List T.Taken) : Type 0 where
   pub same_path : path_after ≡ path
-  pub no_rows : all_tightened (types_in g.types) (path_claims (path_of path ++ (taken_of answer ∷ []))) ≡ None
+  pub no_rows : all_tightened (types_in g.types)
+      (path_claims (path_of path ++ (taken_of answer ∷ []))) ≡ None
 
-abbrev pub IsRowAnswer : Goal → List T.Taken → List Row → T.Taken → List T.Taken → List Row → Answered → Type 0
-IsRowAnswer g path rows answer path_after rows_after (A.Row q r) = (q ≡ answer.atom) × HasAnswerRow g path rows answer path_after rows_after r
-IsRowAnswer g path rows answer path_after rows_after (A.Bits q) = (q ≡ answer.atom) × LacksAnswerRow g path answer path_after
+abbrev pub IsRowAnswer : Goal → List T.Taken → List Row → T.Taken → List T.Taken → List Row
+    → Answered → Type 0
+IsRowAnswer g path rows answer path_after rows_after (A.Row q r) =
+    (q ≡ answer.atom) × HasAnswerRow g path rows answer path_after rows_after r
+IsRowAnswer g path rows answer path_after rows_after (A.Bits q) =
+    (q ≡ answer.atom) × LacksAnswerRow g path answer path_after
 
--- The trail stands at the path, and these are the rows of the two answers to its question.
-pub record AreAnswerRows (g : Goal) (ps : List Taken) (q : Atom) (t : Trail) (rows : AnswerRows) : Type 0 where
+-- `AreAnswerRows g ps q t rows`: the trail `t` is at the path `ps`, and `rows` are those of the two
+-- answers to its comparison `q`.
+pub record AreAnswerRows (g : Goal) (ps : List Taken) (q : Atom) (t : Trail) (rows : AnswerRows)
+    : Type 0 where
   pub at : StandsAt g ps t
   pub yes : ArePathRows g (onto ps q true) (t.rows.items ++ (rows.yes ∷ []))
   pub no : ArePathRows g (onto ps q false) (t.rows.items ++ (rows.no ∷ []))
@@ -48,14 +56,17 @@ IsBoth g ps q t (B.Rows a rows) = (atom_of a ≡ q) × AreAnswerRows g ps q t ro
 IsBoth g ps q t (B.Lost a) = (atom_of a ≡ q) × StandsAt g ps t
 IsBoth g ps q t (B.Unknown cause) = EndsWalk g ps false cause
 
--- A question of a front that is kept, and with each answer the path is at no end.
+-- `IsAsked g ps q`: `q` is the next comparison of the kept path `ps`, and the path is not at an end
+-- after either answer.
 pub record IsAsked (g : Goal) (ps : List Taken) (q : Atom) : Type 0 where
   pub goes_on : GoesOn g ps q
   pub lasts : (held : Bool) → IsNoEnd g (onto ps q held)
 
--- The question may be new; or with one of its answers the path is kept and with the other one it's dropped; or the walk ends.
+-- `IsRepeat g ps q t r`: the comparison `q` may be new; or the path is kept with one answer and
+-- dropped with the other; or the walk ends.
 abbrev pub IsRepeat : Goal → List Taken → Atom → Trail → Repeat → Type 0
 IsRepeat g ps q t (New a) = (atom_of a ≡ q) × StandsAt g ps t
 IsRepeat g ps q t Yes = StandsAt g (onto ps q true) t × IsKeptPath g (onto ps q true)
-IsRepeat g ps q t (No ms) = StandsAt g (onto ps q false) t × (IsKeptPath g (onto ps q false) × IsDroppedBy g (onto ps q true) ms.items)
+IsRepeat g ps q t (No ms) = StandsAt g (onto ps q false) t
+    × (IsKeptPath g (onto ps q false) × IsDroppedBy g (onto ps q true) ms.items)
 IsRepeat g ps q t (Unknown cause) = EndsWalk g ps false cause
