@@ -1,4 +1,5 @@
--- A question whose row the path has already: with one answer the path is kept, with the other one it's dropped.
+-- A comparison whose row the path has already: the path is kept with one answer and dropped with
+-- the other.
 use Rattle.std.proofs.Common.{◌≡◌, ℕ, ◌+◌, ◌≤◌, ◌<◌, List, [], ◌∷◌, ◌++◌, length, take, refl, sym, ap, ◌∙◌, subst, arith, length-append, Bool, true, false}
 use Prim.Native.Nat.{suc}
 use Rattle.std.specs.Prelude.{None, not}
@@ -37,7 +38,6 @@ use Rattle.region_split.proofs.KnownRows.{row_behind}
 use Rattle.region_split.proofs.PathAnswers.{dropped_by, unended_undenied}
 use Rattle.region_split.proofs.Trails.{same_path_rows, unstated_path}
 
--- the branch of the other answer
 dropped_other : (g : Goal) (qs : List Taken) (rows : List Row) (other : Row) (i : ℕ) → i < length rows → Clash (row_at rows i) other → IsNoEnd g qs → HasFirstRows g qs (rows ++ (other ∷ [])) → IsDroppedBy g qs ((i, 1) ∷ ((length rows, 1) ∷ []))
 dropped_other g qs rows other i l h n f =
     let all = (rows ++ (other ∷ [])) ++ f.signs in
@@ -48,7 +48,7 @@ dropped_other g qs rows other i l h n f =
     let k : IsRefutedWith g qs false ((i, 1) ∷ ((length rows, 1) ∷ [])) = record { rows = all; are_rows = f.are_rows; contradiction = clash_contradicts all (row_at rows i) other i (length rows) l (omega (arith, a, b)) at_row at_other h } in
     dropped_by g qs false _ _ (unended_undenied g qs n) k k
 
--- what the law says of a question that the path has answered
+-- The law on a comparison that the path has answered before.
 pub record IsAnsweredBefore (g : Goal) (ps : List Taken) (q : Atom) (rows : List Row) (held : Bool) (i n : ℕ) : Type 0 where
   pub kept : IsKeptPath g (onto ps q held)
   pub are_rows : ArePathRows g (onto ps q held) (rows ++ (row_at rows i ∷ []))
@@ -64,7 +64,6 @@ answered g ps q t r n law a s k e =
 
 -- ---- The rows of the answers
 
--- an answer to a comparison has one row more
 pub one_more : (ps : List Taken) (p : T.Taken) → length (answer_claims (atom_of p.atom) p.held) ≡ 1 → length (path_claims (ps ++ (taken_of p ∷ []))) ≡ length (path_claims ps) + 1
 one_more ps p e = let c = claims_counted ps (atom_of p.atom) p.held in omega (arith, c, e)
 
@@ -79,7 +78,6 @@ last_row g ps t rows more h k n fewer row e =
 pub no_last_row : (g : Goal) (ps : List Taken) (t : Taken) (more : List Row) → ArePathRows g (ps ++ (t ∷ [])) more → length (path_claims (ps ++ (t ∷ []))) ≡ length (path_claims ps) + 1 → length more ≡ 0 → ⊥
 no_last_row g ps t more k n e = let a = rows_counted g (ps ++ (t ∷ [])) more k in absurd (omega (arith, a, n, e))
 
--- there are at most as many rows as answers
 claims_few : (ps : List Taken) → length (path_claims ps) ≤ length ps
 claims_few [] = omega arith
 claims_few (p ∷ ps) = go p.atom p.held (claims_few ps)
@@ -91,10 +89,8 @@ claims_few (p ∷ ps) = go p.atom p.held (claims_few ps)
 pub rows_few : (g : Goal) (ps : List Taken) (rows : List Row) → ArePathRows g ps rows → length rows ≤ length ps
 rows_few g ps rows h = let a = rows_counted g ps rows h in let b = claims_few ps in omega (arith, a, b)
 
--- where the row of yes can't be stated, the walk ends in its branch
 pub unstated_yes : (g : Goal) (ps : List Taken) (q : Atom) → GoesOn g ps q → all_tightened (types_in g.types) (path_claims (onto ps q true)) ≡ None → EndsWalk g ps false Bits
 unstated_yes g ps q h e cells r linear = (linear, IsLarge.in_rows (onto ps q true) cells (record { are_before = AreBefore.first ps q cells h r.are_before; few = r.few }) (unstated_path g (onto ps q true) e))
 
--- a path with an answer to its question is a path
 pub question_path : (g : Goal) (ps : List Taken) (q : Atom) (held : Bool) → IsPath g ps → GoesOn g ps q → IsPath g (onto ps q held)
 question_path g ps q held p h = asked_onto g ps q held p h.asks

@@ -1,4 +1,4 @@
--- Goals at which a number is too great, each in another place, and small goals at which no cause is.
+-- Goals with an overflow, each at another place, and small goals without a cause.
 use Rattle.std.proofs.Common.{◌≡◌, ℕ, ◌+◌, List, [], ◌∷◌, length, refl, sym, ◌∙◌, subst, arith, lit<, ◌<◌, ◌^◌, Bool, true, false, cond, eqb, inl, inr}
 use Rattle.std.specs.Prelude.{negsuc, pos, ◌+ℤ◌, ◌*ℤ◌, Some, None}
 use borrow.Author.Differences.{ints}
@@ -48,24 +48,22 @@ use Rattle.region_split.specs.Pieces.{IsPieceOf}
 use Rattle.region_split.specs.Walk.{AreBefore, IsReached}
 use Rattle.region_split.specs.WalkTree.{IsWalkTree}
 
--- A number as a form.
 abbrev number : Rational → Form
 number x = Form.number (finite x)
 
--- A goal that the stated form is at least the found one.
+-- The goal that `stated` is at least `found`.
 abbrev upper_goal : Form → Form → List Ty → Goal
 upper_goal stated found types = record { upper = true; stated = stated; found = found; types = types; names = []; own = 0 }
 
--- the walk starts
 at_first : (g : Goal) → IsReached g [] []
 at_first g = record { are_before = AreBefore.start; few = omega arith }
 
 no_rows_kept : (g : Goal) → rows_of g [] false ≡ Some [] → IsKeptPath g []
 no_rows_kept g e = record { rows = []; are_rows = e; solvable = record { at_values = λ x. zeroʳ; meets = All-nil _ } }
 
--- ---- A number is too great
+-- ---- Overflows
 
--- 2^62 is at least 0
+-- 2^62 is at least 0.
 abbrev great_value : Goal
 great_value = upper_goal (number (ratio (pos 4611686018427387904) 1)) (number (ratio (pos 0) 1)) []
 
@@ -73,11 +71,11 @@ great_value_ends : end_at great_value [] ≡ bits
 unfolding is_sized fits ratio gcd gcd_steps
 great_value_ends = refl
 
--- The value 2^62 of a front that is kept is too great.
+-- The value 2^62 of a front that is kept overflows.
 large_in_values : IsLarge great_value
 large_in_values = IsLarge.in_values [] [] (at_first great_value) (no_rows_kept great_value refl) great_value_ends
 
--- ite(x/(2^61 - 1) + 4y <= 1, 1, 0) is at least 0
+-- `ite(x/(2^61 - 1) + 4y <= 1, 1, 0)` is at least 0.
 abbrev great_row : Goal
 great_row = upper_goal (Form.select (Cond.le (Form.sum (Form.scale (ratio (pos 1) 2305843009213693951) (Form.variable 0)) (Form.scale (ratio (pos 4) 1) (Form.variable 1))) (number (ratio (pos 1) 1))) (number (ratio (pos 1) 1)) (number (ratio (pos 0) 1))) (number (ratio (pos 0) 1)) (Ty.Int ∷ Ty.Int ∷ [])
 
@@ -92,11 +90,11 @@ great_row_lost : rows_of great_row (onto [] great_question true) false ≡ None
 unfolding great_question is_sized fits ratio gcd gcd_steps minus plus scaled minus_oneʳ is_zeroʳ zeroʳ oneʳ ◌+ʳ◌ ◌*ʳ◌ leqʳ tightened factor common_multiple common_divisor floorʳ ceilʳ product_fits
 great_row_lost = refl
 
--- The row of the answer yes has the coefficient 4 (2^61 - 1) of y, which is too great.
+-- The row of the answer yes has the coefficient 4 * (2^61 - 1) of y, which overflows.
 large_in_rows : IsLarge great_row
 large_in_rows = IsLarge.in_rows (onto [] great_question true) [] (record { are_before = AreBefore.first [] great_question [] asks_great AreBefore.start; few = omega arith }) great_row_lost
 
--- ite(x < 0, 1/(2^31 - 1), 1) is at least 1/(2^61 - 1), for a natural number x
+-- `ite(x < 0, 1/(2^31 - 1), 1)` is at least 1/(2^61 - 1), for a UInt x.
 abbrev great_denial : Goal
 great_denial = upper_goal (Form.select (Cond.lt (Form.variable 0) (number (ratio (pos 0) 1))) (number (ratio (pos 1) 2147483647)) (number (ratio (pos 1) 1))) (number (ratio (pos 1) 2305843009213693951)) (Ty.UInt ∷ [])
 
@@ -107,11 +105,11 @@ asks_negative : GoesOn great_denial [] is_negative_x
 unfolding is_negative_x is_sized fits ratio gcd gcd_steps minus plus scaled minus_oneʳ is_zeroʳ zeroʳ oneʳ ◌+ʳ◌ ◌*ʳ◌ leqʳ
 asks_negative = record { kept = no_rows_kept great_denial refl; asks = record { yes = _; no = _; question = refl } }
 
--- x + n <= 0 and -x <= 0
+-- The rows `x + n <= 0` and `-x <= 0`.
 abbrev with_x : ℕ → List Row
 with_x n = record { terms = (0, pos 1) ∷ []; rest = pos n; strict = false } ∷ record { terms = (0, negsuc 0) ∷ []; rest = pos 0; strict = false } ∷ []
 
--- they add up to n <= 0
+-- Their sum is `n <= 0`.
 with_x_contradict : (n : ℕ) → 0 < n → n < 2 ^ 62 → IsContradiction ((0, 1) ∷ (1, 1) ∷ []) (with_x n)
 unfolding combined coefficient
 with_x_contradict n p l = two_contradict 1 _ _ (lit< tt) (lit< tt) (wide_where ((0, 1) ∷ (1, 1) ∷ []) (with_x n) (lit< tt) (omega (arith, l))) (λ x. none (eqb 0 x)) (inl (omega (arith, ints, p)))
@@ -127,11 +125,11 @@ negative_rows = (refl, refl)
 negative_dropped : IsDropped great_denial (onto [] is_negative_x true)
 negative_dropped = record { rows = with_x 1; are_rows = negative_rows.0; unsolvable = contradiction_unsolvable ((0, 1) ∷ (1, 1) ∷ []) (with_x 1) (with_x_contradict 1 (lit< tt) (lit< tt)) }
 
--- No natural number is negative, and the difference of the two values there is too great.
+-- No UInt is negative, and the difference of the two values there overflows.
 large_in_denied_goal : IsLarge great_denial
 large_in_denied_goal = IsLarge.in_denied_goal (onto [] is_negative_x true) [] (record { are_before = AreBefore.first [] is_negative_x [] asks_negative AreBefore.start; few = omega arith }) negative_dropped negative_rows.1
 
--- 1/(2^31 - 1) is at least 1/(2^61 - 1)
+-- 1/(2^31 - 1) is at least 1/(2^61 - 1).
 abbrev great_difference : Goal
 great_difference = upper_goal (number (ratio (pos 1) 2147483647)) (number (ratio (pos 1) 2305843009213693951)) []
 
@@ -152,7 +150,7 @@ fractions_not_plain p = go p.ends (sym ends_in_fractions ∙ p.at_end) p.plain
     go : (e : Ends) → done two_fractions ≡ done e → denial true e ≡ None → ⊥
     go e h k = let i : two_fractions ≡ e = cc in let j = rw (← i) at k in absurd (cc)
 
--- The difference of the two values of the one cell is too great.
+-- The difference of the two values of the only cell overflows.
 large_in_piece : IsLarge great_difference
 large_in_piece = IsLarge.in_piece 0 [] [] (record {
   cell = [];
@@ -163,16 +161,15 @@ large_in_piece = IsLarge.in_piece 0 [] [] (record {
   piece = IsPieceOf.whole;
 }) difference_lost
 
--- So its answer may be Bits.
 bits_is_a_cause : IsCause great_difference Bits
 bits_is_a_cause = (refl, large_in_piece)
 
--- ---- No number is too great, and there are not too many rows
+-- ---- No overflow, and at most 4,096 rows
 
 abbrev plain_ends : Ends
 plain_ends = (None, Some (variable 0))
 
--- Infinity is at least x, at which no number is too great.
+-- Infinity is at least x: nothing overflows.
 plain_is_not_large : IsLarge plain_goal → ⊥
 plain_is_not_large = no_large plain_goal (lone_fronts plain_goal plain_ends refl (fine_start plain_goal plain_ends refl [] refl refl)) (λ n ps cells l. absurd (l.not_plain (subst_plain (starts plain_goal plain_ends refl l.cell cells l.reached.are_before).0)))
   where
@@ -190,27 +187,26 @@ false_asks_nothing = refl
 false_linear : nonlinear_product false_goal ≡ None
 false_linear = refl
 
--- 0 is not at least 1, and no cause keeps that from being known.
+-- 0 is not at least 1, and no cause prevents this answer.
 false_has_no_cause : (cause : Cause) → IsCause false_goal cause → ⊥
 false_has_no_cause = none_where_falsified false_goal
     (lone_fronts false_goal (zero, one) false_asks_nothing (fine_start false_goal (zero, one) false_asks_nothing (below_zero ∷ []) refl denied_row))
     (lone_pieces false_goal (zero, one) false_asks_nothing (λ n x m s. point_or_break false_goal [] [] false_point (split_breaks false_goal [] x m s.breaks)) (record { rows = below_zero ∷ []; are_rows = denied_row; within = standing_within (below_zero ∷ []) [] false_stands }))
     [] false_linear falsified
 
--- So no number is too great there.
 false_is_not_large : IsLarge false_goal → ⊥
 false_is_not_large h = false_has_no_cause Bits (false_linear, h)
 
--- ---- Goals that hold, at which no cause is
+-- ---- Goals that hold and have no cause
 
--- 2x + 1 is at least x, for a natural number x
+-- `2x + 1` is at least x, for a UInt x.
 abbrev up : Goal
 up = upper_goal (Form.sum (Form.scale (ratio (pos 2) 1) (Form.variable 0)) (number (ratio (pos 1) 1))) (Form.variable 0) (Ty.UInt ∷ [])
 
 up_ends : Ends
 up_ends = (Some (record { terms = (0, ratio (pos 2) 1) ∷ []; rest = ratio (pos 1) 1 }), Some (variable 0))
 
--- the sum 2 <= 0 of x + 2 <= 0 and -x <= 0, divided by 2
+-- The sum `2 <= 0` of `x + 2 <= 0` and `-x <= 0`, divided by 2.
 abbrev halved : Derived
 halved = record { row = record { terms = []; rest = pos 1; strict = false }; shares = (0, pos 1) ∷ (1, pos 1) ∷ []; over = 2 }
 
@@ -226,7 +222,7 @@ up_refuted : eliminated (with_x 2) (Ty.UInt ∷ []) ≡ refuted halved
 unfolding coefficient add_term add_terms are_wide common mixed_row lowest join put_row put_variable order_of strongest contradiction pairs fits_each pairs_fit run start gcd gcd_steps
 up_refuted = refl
 
--- No cause is at `2x + 1 >= x`, though its two rows have no solution.
+-- There is no cause at `2x + 1 >= x`, and its two rows have no solution.
 up_has_no_cause : (cause : Cause) → IsCause up cause → ⊥
 up_has_no_cause = none_where_refuted up up_ends up_asks_nothing (with_x 2) halved refl refl up_denied.0 up_denied.1 up_refuted (with_x_contradict 2 (lit< tt) (lit< tt))
 
@@ -234,18 +230,18 @@ up_has_no_cause = none_where_refuted up up_ends up_asks_nothing (with_x 2) halve
 up_is_proved : IsWalkTree up [] (Tree.farkas ((0, 1) ∷ (1, 1) ∷ []))
 up_is_proved = refuted_tree up up_ends up_asks_nothing (with_x 2) halved refl refl up_denied.0 up_denied.1 up_refuted (with_x_contradict 2 (lit< tt) (lit< tt))
 
--- 2r + 1/2 is at least r, for a real number r that isn't negative
+-- `2r + 1/2` is at least r, for a UReal r.
 abbrev up_real : Goal
 up_real = upper_goal (Form.sum (Form.scale (ratio (pos 2) 1) (Form.variable 0)) (number (ratio (pos 1) 2))) (Form.variable 0) (Ty.UReal ∷ [])
 
 up_real_ends : Ends
 up_real_ends = (Some (record { terms = (0, ratio (pos 2) 1) ∷ []; rest = ratio (pos 1) 2 }), Some (variable 0))
 
--- 2r + 1 < 0 and -r <= 0
+-- The rows `2r + 1 < 0` and `-r <= 0`.
 abbrev up_real_rows : List Row
 up_real_rows = record { terms = (0, pos 2) ∷ []; rest = pos 1; strict = true } ∷ record { terms = (0, negsuc 0) ∷ []; rest = pos 0; strict = false } ∷ []
 
--- the first and twice the second add up to 1 < 0
+-- The first row plus twice the second is `1 < 0`.
 up_real_contradicts : IsContradiction ((0, 1) ∷ (1, 2) ∷ []) up_real_rows
 unfolding combined coefficient
 up_real_contradicts = two_contradict 2 _ _ (lit< tt) (lit< tt) (wide_where ((0, 1) ∷ (1, 2) ∷ []) up_real_rows (lit< tt) (lit< tt)) (λ x. none (eqb 0 x)) (inl (omega (arith, ints)))
@@ -269,18 +265,17 @@ up_real_refuted : eliminated up_real_rows (Ty.UReal ∷ []) ≡ refuted one_belo
 unfolding coefficient add_term add_terms are_wide common mixed_row lowest join put_row put_variable order_of strongest contradiction pairs fits_each pairs_fit run start gcd gcd_steps
 up_real_refuted = refl
 
--- No cause is at `2r + 1/2 >= r`.
 up_real_has_no_cause : (cause : Cause) → IsCause up_real cause → ⊥
 up_real_has_no_cause = none_where_refuted up_real up_real_ends up_real_asks_nothing up_real_rows one_below_zero refl refl up_real_denied.0 up_real_denied.1 up_real_refuted up_real_contradicts
 
--- a fair coin: 1/2 is at least 1/2 [true] + 1/2 [false]
+-- A fair coin: 1/2 is at least `1/2 * [true] + 1/2 * [false]`.
 abbrev coin : Goal
 coin = upper_goal (number (ratio (pos 1) 2)) (Form.sum (Form.scale (ratio (pos 1) 2) (Form.iverson (Cond.constant true))) (Form.scale (ratio (pos 1) 2) (Form.iverson (Cond.constant false)))) (Ty.Bool ∷ [])
 
 coin_ends : Ends
 coin_ends = (Some (constant (ratio (pos 1) 2)), Some (constant (ratio (pos 1) 2)))
 
--- 0 < 0
+-- The row `0 < 0`.
 abbrev coin_rows : List Row
 coin_rows = record { terms = []; rest = pos 0; strict = true } ∷ []
 
@@ -303,17 +298,15 @@ coin_refuted : eliminated coin_rows (Ty.Bool ∷ []) ≡ refuted zero_below_zero
 unfolding put_variable order_of contradiction strongest run start
 coin_refuted = refl
 
--- No cause is at a fair coin's goal.
 coin_has_no_cause : (cause : Cause) → IsCause coin cause → ⊥
 coin_has_no_cause = none_where_refuted coin coin_ends coin_asks_nothing coin_rows zero_below_zero refl refl coin_denied.0 coin_denied.1 coin_refuted coin_contradicts
 
 -- ---- Counts and products
 
--- 0 >= 1 has one cell.
+-- `0 >= 1` has one cell, not two.
 one_cell_reached : HasCells false_goal 1
 one_cell_reached = record { path = []; before = []; are_before = AreBefore.start; cell = false_cell; counted = refl }
 
--- It does not have two.
 no_second_cell : HasCells false_goal 2 → ⊥
 no_second_cell h = let e = (starts false_goal (zero, one) false_asks_nothing h.path h.before h.are_before).1 in absurd (count h.before e h.counted)
   where
@@ -321,17 +314,16 @@ no_second_cell h = let e = (starts false_goal (zero, one) false_asks_nothing h.p
     count [] e k = absurd (omega (arith, k))
     count (c ∷ cs) e k = absurd (cc)
 
--- No rows of `2x + 1 >= x` are too many.
 up_has_few_rows : (steps count : ℕ) → HasManyRows up steps count → ⊥
 up_has_few_rows steps count h = up_has_no_cause (Rows steps count) (refl, h)
 
 abbrev place : Span
 place = record { from = 4; to = 5 }
 
--- x times x is at least x
+-- `x * x` is at least x.
 abbrev square : Goal
 square = upper_goal (Form.product (Form.variable 0) (Form.variable 0) place) (Form.variable 0) (Ty.UInt ∷ [])
 
--- The place of its product is a cause, and `2x + 1 >= x` has none.
+-- The place of its product is a cause; `2x + 1 >= x` has no such cause.
 square_is_nonlinear : IsCause square (Nonlinear place) × (IsCause up (Nonlinear place) → ⊥)
 square_is_nonlinear = (refl, up_has_no_cause (Nonlinear place))

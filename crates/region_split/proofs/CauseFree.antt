@@ -1,4 +1,4 @@
--- Goals at which no cause is: all that their walk reaches and eliminates is within the limits.
+-- Goals without a cause: all that their walk reaches and eliminates is within the limits.
 use Rattle.std.proofs.Common.{◌≡◌, ℕ, ℤ, List, [], ◌∷◌, refl, sym, ap, ◌∙◌, subst, arith, true, false}
 use Rattle.std.specs.Prelude.{Some, None}
 use Rattle.std.proofs.lemmas.List.Elements.{All-nil}
@@ -33,7 +33,7 @@ use Rattle.region_split.specs.Pieces.{IsPieceOf, IsSplitAt}
 use Rattle.region_split.specs.Walk.{AreBefore, AreCells, IsReached, IsSettled, IsWalked}
 use Rattle.region_split.specs.WalkTree.{IsPieceTree, IsWalkTree}
 
--- ---- What is within the limits
+-- ---- Within the limits
 
 -- A front whose rows without the denied goal, end and denied goal are within the limits.
 pub record IsFineFront (g : Goal) (ps : List Taken) : Type 0 where
@@ -64,7 +64,6 @@ module _ (g : Goal) (fronts : (ps : List Taken) (cells : List (List Taken)) → 
   pub no_many_rows : (steps count : ℕ) → HasManyRows g steps count → ⊥
   no_many_rows steps count h = (eliminated_within h.path h.rows h.eliminates).few steps count h.too_many_rows
 
-  -- A goal that holds by a tree, and one that is falsified, has no cause then.
   pub none_where_proved : (t : Tree) (cells : List (List Taken)) → nonlinear_product g ≡ None → IsWalkTree g [] t → IsWalked g cells → (cause : Cause) → IsCause g cause → ⊥
   none_where_proved t cells n a w Depth h = h
   none_where_proved t cells n a w Nodes h = h
@@ -83,10 +82,10 @@ module _ (g : Goal) (fronts : (ps : List Taken) (cells : List (List Taken)) → 
   none_where_falsified p n f Bits h = no_large h.1
   none_where_falsified p n f (Fraction b) h = falsified_or_cause g p (Fraction b) (n, f) h (λ o. o)
 
--- ---- Goals without questions
+-- ---- Goals without comparisons
 
 module _ (g : Goal) (e : Ends) (lone : questions g ≡ done e) where
-  -- The walk reaches its start alone.
+  -- The walk reaches only its start.
   pub starts : (ps : List Taken) (cells : List (List Taken)) → AreBefore g ps cells → (ps ≡ []) × (cells ≡ [])
   starts _ _ AreBefore.start = (refl, refl)
   starts _ _ (AreBefore.first ps q cs k b) = absurd (end_or_question g ps e q (ap (λ t. walk t ps) lone) k.asks)
@@ -98,7 +97,6 @@ module _ (g : Goal) (e : Ends) (lone : questions g ≡ done e) where
   pub lone_fronts : IsFineFront g [] → (ps : List Taken) (cells : List (List Taken)) → IsReached g ps cells → IsFineFront g ps
   lone_fronts f ps cells r = subst (IsFineFront g) (sym (starts ps cells r.are_before).0) f
 
-  -- Where the start isn't split, it is the one piece.
   unsplit : ((n x : ℕ) (m : ℤ) → IsSplitAt g n [] x m → ⊥) → (n : ℕ) (ps : List Taken) → IsPieceOf g [] n ps → ps ≡ []
   unsplit never _ _ IsPieceOf.whole = refl
   unsplit never _ _ (IsPieceOf.first n ps x m h s) = absurd (never n x m (subst (λ qs. IsSplitAt g n qs x m) (unsplit never n ps h) s))

@@ -1,4 +1,4 @@
--- Where a walk stands is a front that it reaches, and where it finds one cell more than the most.
+-- The walk is at a front that it reaches.
 use Rattle.std.proofs.Common.{◌≡◌, ◌≤◌, List, length, arith, Bool, true, false}
 use Rattle.std.specs.Prelude.{Option}
 use Rattle.heylo_formula.specs.Goals.{Goal}
@@ -17,7 +17,6 @@ pub front_path : (g : Goal) (ps : List Taken) → IsFront g ps → IsQuestionPat
 front_path g _ IsFront.start = Path.start (questions g)
 front_path g _ (IsFront.answer ps q held f h) = path_onto (questions g) ps q h.asks.yes h.asks.no held (front_path g ps f) h.asks.question
 
--- what the walk reaches is a front
 pub before_front : (g : Goal) (ps : List Taken) (cells : List (List Taken)) → AreBefore g ps cells → IsFront g ps
 before_front g _ _ AreBefore.start = IsFront.start
 before_front g _ _ (AreBefore.first ps q cs h b) = IsFront.answer ps q true (before_front g ps cs b) h
@@ -37,7 +36,6 @@ stands_front g ps cells trees b = before_front g ps cells (are_before g ps cells
 pub cell_here : (g : Goal) (ps : List Taken) (plain : Bool) → IsFront g ps → IsEnd g ps plain → IsCell g ps
 cell_here g ps plain f e = record { front = f; kept = e.kept; ends = e.ends; at_end = e.at_end }
 
--- the cells before the path, and the path itself
 pub many_cells : (g : Goal) (ps : List Taken) (cells : List (List Taken)) (trees : List (Option F.Tree)) (plain : Bool) → HasBefore g ps cells trees → IsEnd g ps plain → length cells ≡ 4096 → HasCells g 4097
 many_cells g ps cells trees plain b e n = record {
   path = ps;

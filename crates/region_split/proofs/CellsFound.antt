@@ -1,4 +1,4 @@
--- What a walk has found, once there is another cell.
+-- The results of a walk after one more cell.
 use Rattle.std.proofs.Common.{◌≡◌, List, [], ◌∷◌, ◌++◌, refl, sym, ap, ◌∙◌, subst, append_assoc, true, inl, inr}
 use Rattle.std.specs.List.{All}
 use Rattle.std.proofs.lemmas.List.{append-nil}
@@ -38,7 +38,6 @@ breaks g ps b p = record { rows = p.rows; are_rows = p.are_rows; solvable = p.br
 
 -- ---- The ends of cells
 
--- cells at which the goal holds have none
 pub no_ends : (g : Goal) (cells : List (List Taken)) → All (HoldsAt g) cells → EndsOf g cells []
 no_ends g [] h = EndsOf.start
 no_ends g (ps ∷ cells) h = go (All-head (HoldsAt g) ps cells h) (no_ends g cells (All-tail (HoldsAt g) ps cells h))
@@ -47,7 +46,6 @@ no_ends g (ps ∷ cells) h = go (All-head (HoldsAt g) ps cells h) (no_ends g cel
     go (inl p) e = EndsOf.plain ps cells [] p e
     go (inr a) e = EndsOf.pieces ps cells [] [] a e
 
--- one cell more, behind the others
 pub ends_longer : (g : Goal) (cells : List (List Taken)) (ps : List Taken) (es fs : List (List Taken)) → EndsOf g cells es → AreEnds g 0 ps fs → EndsOf g (cells ++ (ps ∷ [])) (es ++ fs)
 ends_longer g _ ps _ fs EndsOf.start a = subst (EndsOf g (ps ∷ [])) (append-nil fs) (EndsOf.pieces ps [] fs [] a EndsOf.start)
 ends_longer g _ ps _ fs (EndsOf.plain qs cells es p h) a = EndsOf.plain qs (cells ++ (ps ∷ [])) (es ++ fs) p (ends_longer g cells ps es fs h a)
@@ -80,13 +78,11 @@ point_longer g cells ps point f = record {
   gives = f.gives;
 }
 
--- another cell at which the goal holds
 pub found_holds : (g : Goal) (cells : List (List Taken)) (ps : List Taken) (found : Found) → IsFound g cells found → HoldsAt g ps → IsFound g (cells ++ (ps ∷ [])) found
 found_holds g cells ps Nothing f h = All-push (HoldsAt g) cells ps f h
 found_holds g cells ps (Break b) f h = record { path = f.path; after = f.after; are_ends = holds_longer g cells ps (f.path ∷ f.after) f.are_ends h; breaks_here = f.breaks_here; broken_after = f.broken_after }
 found_holds g cells ps (Point p) f h = point_longer g cells ps p.items f
 
--- another cell that has ends
 pub first_break : (g : Goal) (cells : List (List Taken)) (ps : List Taken) (b : Broken) → All (HoldsAt g) cells → IsBroken g 0 ps b → IsFirstBreak g (cells ++ (ps ∷ [])) b
 first_break g cells ps b h k = record { path = k.path; after = k.after; are_ends = ends_longer g cells ps [] (k.path ∷ k.after) (no_ends g cells h) k.ends; breaks_here = k.breaks_here; broken_after = k.broken_after }
 
@@ -99,7 +95,6 @@ later_break g cells ps first b f k = record {
   broken_after = All-append (Breaks g) f.after (k.path ∷ k.after) f.broken_after (All-cons (Breaks g) k.path k.after (breaks g k.path b k.breaks_here) k.broken_after);
 }
 
--- another cell that gives a point
 point_after : (g : Goal) (cells : List (List Taken)) (ps : List Taken) (point : List Val) (es : List (List Taken)) → EndsOf g cells es → All (Breaks g) es → IsCell g ps → HasFirstPoint g 0 ps point → IsFirstPoint g (cells ++ (ps ∷ [])) point
 point_after g cells ps point es e b c p = record { before = cells; cell = ps; after = []; whole = refl; ends = es; are_ends = e; broken = b; is_cell = c; gives = p }
 

@@ -1,4 +1,4 @@
--- Two rows that clash are combined to a contradiction.
+-- Two rows that exclude each other combine to a contradiction.
 use Rattle.std.proofs.Common.{◌≡◌, ℕ, ◌+◌, ◌<◌, ◌^◌, List, [], ◌∷◌, length, take, refl, sym, ap, ap₂, ◌∙◌, subst, arith, Bool, true, false, cond, eqb, ◌⊎◌, inl, inr}
 use Rattle.std.specs.Prelude.{ℤ, pos, ◌+ℤ◌, ◌*ℤ◌, ◌<ℤ◌, unsigned_abs, ◌||◌}
 use borrow.Author.Differences.{ints}
@@ -18,7 +18,6 @@ plus_nothing z = omega (arith, ints)
 nothing_plus : (z : ℤ) → pos 0 +ℤ z ≡ z
 nothing_plus z = omega (arith, ints)
 
--- a variable below all others has none
 none_below : (least x : ℕ) (ts us : List (ℕ × ℤ)) → Cancel least ts us → x < least → coefficient x ts ≡ pos 0
 unfolding coefficient
 none_below least x [] us h l = refl

@@ -1,4 +1,5 @@
--- The walks of two goals without questions, worked out by hand: one holds plainly, the other fails.
+-- The walks of two goals without comparisons, worked out by hand: one holds trivially, the other
+-- fails.
 use Rattle.std.proofs.Common.{◌≡◌, ℕ, ◌<◌, [], ◌∷◌, refl, sym, ◌∙◌, arith, true, ◌==◌}
 use Rattle.std.specs.Prelude.{negsuc, Some, None}
 use Rattle.std.proofs.lemmas.List.Elements.{All-nil, All-cons}
@@ -35,7 +36,7 @@ use Rattle.region_split.specs.Pieces.{EndsOf, HasFirstPoint}
 use Rattle.region_split.specs.DecisionLaws.{IsOfLimits}
 use Rattle.region_split.specs.Decisions.{IsDecision, IsFalsified}
 
--- infinity is at least x
+-- Infinity is at least x.
 abbrev pub plain_goal : Goal
 plain_goal = record { upper = true; stated = Form.number infinite; found = Form.variable 0; types = Ty.UInt ∷ []; names = []; own = 0 }
 
@@ -54,7 +55,7 @@ one_cell = AreCells.end [] (None, Some (variable 0)) plain_kept refl (IsSettled.
 reached_first : IsReached plain_goal [] []
 reached_first = record { are_before = AreBefore.start; few = omega arith }
 
--- The walk proves it, and this decision meets the premises of the laws of decisions.
+-- The walk proves the goal, and the decision satisfies the premises of the laws of decisions.
 plain_is_proved : IsDecision plain_goal (Proved (Some T.Plain)) × (IsOfLimits (Proved (Some T.Plain)) → ⊥)
 plain_is_proved = ((refl, record { cells = [] ∷ []; walked = record { are_cells = one_cell; few = omega arith }; tree = Tree.plain; is_tree = one_leaf.0; is_given = (plain_tree, omega arith) }), λ n. n)
 
@@ -64,11 +65,11 @@ plain_is_typed = (record { stated = refl; found = refl }, record { stated = λ x
     first : (x : ℕ) → (x == 0) ≡ true → x < 1
     first x e = grind arith
 
--- Its tree meets the premises of the laws of trees.
+-- Its tree satisfies the premises of the laws of trees.
 plain_is_certified : (nonlinear_product plain_goal ≡ None) × IsWalkTree plain_goal [] Tree.plain
 plain_is_certified = (refl, one_leaf.0)
 
--- 0 is at least 1
+-- 0 is at least 1.
 abbrev pub false_goal : Goal
 false_goal = record { upper = true; stated = Form.number (finite zeroʳ); found = Form.number (finite oneʳ); types = []; names = []; own = 0 }
 
@@ -109,7 +110,7 @@ pub false_point : IsPointOf false_goal [] []
 unfolding order_of
 false_point = record { rows = below_zero ∷ []; are_rows = denied_row; values = []; greedy = record { solvable = denied_solvable; chosen = []; choice = Chooses.ends []; state = record { each = refl; values = λ x l. absurd (omega (arith, l)) } }; truths = refl }
 
--- the state without variables falsifies it
+-- The state without variables falsifies it.
 pub falsified : IsFalsified false_goal []
 falsified = record {
   cells = [] ∷ [];

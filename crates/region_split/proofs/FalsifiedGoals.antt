@@ -56,7 +56,7 @@ truths_at ps k (v ∷ vs) (suc x) d l = truths_at ps (suc k) vs x d (omega (arit
 
 -- ---- The state of the point, variable by variable
 
--- What is known of a point: its values, and what the choice says of them.
+-- A point with its values, and the properties of the choice.
 record Pointed (g : Goal) (ps : List Taken) (rows : List Row) (cs : List (ℕ × Rational)) (point : List Val) : Type 0 where
   size : length point ≡ length g.types
   at_variable : (x : ℕ) → x < length g.types → environment point x ≡ value_on (known x ps) (value_for (types_in g.types x) (chosen_value x cs))
@@ -64,7 +64,6 @@ record Pointed (g : Goal) (ps : List Taken) (rows : List Row) (cs : List (ℕ ×
   variables : (x : ℕ) (b : Bool) → known x ps ≡ Some b → x < length g.types
   choice : ChoosesFrom rows g.types (Greedy.chose cs)
 
--- a variable of numbers has no truth
 no_truth : (ty : Ty) (o : Option Bool) → is_numeric ty ≡ true → ((b : Bool) → o ≡ Some b → is_bool ty ≡ true) → o ≡ None
 no_truth ty None n h = refl
 no_truth Ty.Bool (Some b) n h = absurd (cc)
@@ -127,7 +126,7 @@ pointed g ps point w v a h = record {
 
 -- ---- The piece that gives the point
 
--- Its path, what stands at the path's end, and that it is false.
+-- A path at an end with the point `point`, where the goal is false.
 record GivesPoint (g : Goal) (point : List Val) : Type 0 where
   path : List Taken
   is_path : IsPath g path

@@ -38,7 +38,6 @@ put_all P rows x (y ∷ ys) h k = go (ltb (occurrences x rows) (occurrences y ro
     go true ih = All-cons P x (y ∷ ys) h k
     go false ih = All-cons P y _ (All-head P y ys k) ih
 
--- Each variable of the order occurs.
 order_occurs : (rows : List Row) (n : ℕ) → All (λ x. 0 < occurrences x rows) (order_of rows n)
 unfolding order_of
 order_occurs rows zero = All-nil _
@@ -48,7 +47,6 @@ order_occurs rows (suc n) = go (ltb 0 (occurrences n rows)) refl (order_occurs r
     go true e ih = put_all (λ x. 0 < occurrences x rows) rows n (order_of rows n) (grind (arith, nat_tests)) ih
     go false e ih = ih
 
--- Each variable below n that occurs is in the order.
 in_order : (rows : List Row) (n x : ℕ) → x < n → 0 < occurrences x rows → list_any (λ y. eqb y x) (order_of rows n) ≡ true
 unfolding order_of
 in_order rows zero x l o = absurd (omega (arith, l))
@@ -60,7 +58,7 @@ in_order rows (suc n) x l o = go (eqb n x) refl (ltb 0 (occurrences n rows)) ref
     go false e true f ih = put_any (λ y. eqb y x) rows n (order_of rows n) ∙ ap (λ b. b || list_any (λ y. eqb y x) (order_of rows n)) e ∙ ih (grind (arith, l)) o
     go false e false f ih = ih (grind (arith, l)) o
 
--- ---- The other way round
+-- ---- The converse
 
 or_comm : (a b : Bool) → (a || (b || false)) ≡ (b || a)
 or_comm true true = refl
@@ -82,7 +80,7 @@ turned_order rows n x l o = reverse_any (λ y. eqb y x) (order_of rows n) ∙ in
 pub turned_occurs : (rows : List Row) (n : ℕ) → All (λ x. 0 < occurrences x rows) (reverse (order_of rows n))
 turned_occurs rows n = reverse_all (λ x. 0 < occurrences x rows) (order_of rows n) (order_occurs rows n)
 
--- ---- What is chosen
+-- ---- Chosen variables
 
 moved : (a b c : Bool) → ((a || b) || c) ≡ (b || (c || (a || false)))
 moved true true c = refl
@@ -92,12 +90,10 @@ moved false true c = refl
 moved false false true = refl
 moved false false false = refl
 
--- Each variable of the order is chosen.
 pub chosen_any : (rows : List Row) (vars : List Ty) (x : ℕ) (xs : List ℕ) (cs ds : List (ℕ × Rational)) → Chooses rows vars xs cs (Greedy.chose ds) → (list_any (λ y. eqb y x) xs || list_any (λ c. eqb c.0 x) cs) ≡ true → list_any (λ c. eqb c.0 x) ds ≡ true
 chosen_any rows vars x _ _ ds (Chooses.ends _) h = h
 chosen_any rows vars x _ cs ds (Chooses.takes y ys _ i v _ a c r) h = chosen_any rows vars x ys (cs ++ (y, v) ∷ []) ds r (ap (λ b. list_any (λ z. eqb z x) ys || b) (list_any-append (λ c. eqb c.0 x) cs ((y, v) ∷ [])) ∙ sym (moved (eqb y x) (list_any (λ z. eqb z x) ys) (list_any (λ c. eqb c.0 x) cs)) ∙ h)
 
--- What holds of each variable of the order holds of each that is chosen.
 pub chosen_all : (P : ℕ → Type 0) (rows : List Row) (vars : List Ty) (xs : List ℕ) (cs ds : List (ℕ × Rational)) → Chooses rows vars xs cs (Greedy.chose ds) → All P xs → All (λ c. P c.0) cs → All (λ c. P c.0) ds
 chosen_all P rows vars _ _ ds (Chooses.ends _) h k = k
 chosen_all P rows vars _ cs ds (Chooses.takes y ys _ i v _ a c r) h k = chosen_all P rows vars ys (cs ++ (y, v) ∷ []) ds r (All-tail P y ys h) (All-push (λ c. P c.0) cs (y, v) k (All-head P y ys h))

@@ -1,4 +1,5 @@
--- The greedy point of solvable rows over numbers meets them; its values for whole types are whole, and a variable that occurs_in_row in no row is 0.
+-- The greedy point of solvable rows over numbers satisfies them; its values for types of integers
+-- are integers, and a variable that occurs in no row is 0.
 use Rattle.std.proofs.Common.{◌≡◌, ℕ, ◌+◌, ◌<◌, List, [], ◌∷◌, length, refl, sym, ap, ap₂, ◌∙◌, subst, arith, Bool, true, false, cond, ◌||◌, eqb}
 use Rattle.std.specs.Prelude.{ℤ, reverse}
 use Prim.Native.Nat.{zero, suc}
@@ -41,7 +42,7 @@ value_whole vars x (c ∷ cs) h t = go (eqb c.0 x) refl (value_whole vars x cs (
     go true k ih = All-head (λ c. (is_integral (types_in vars c.0) ≡ true) → c.1.den ≡ 1) c cs h (subst (λ y. (is_integral (types_in vars y) ≡ true)) (sym (same_number c.0 x k)) t)
     go false k ih = ih
 
--- A variable that is chosen has what the chosen ones have; every other one is 0.
+-- A variable has its chosen value, or 0 if none is chosen.
 data Chosen (P : ℕ → Type 0) (x : ℕ) (v : Rational) : Type 0 where
   among : P x → Chosen P x v
   unset : v ≡ zeroʳ → Chosen P x v
@@ -54,7 +55,7 @@ value_chosen P x (c ∷ cs) h = go (eqb c.0 x) refl (value_chosen P x cs (All-ta
     go true k ih = Chosen.among (subst P (same_number c.0 x k) (All-head (λ c. P c.0) c cs h))
     go false k ih = ih
 
--- ---- Rows say nothing of other variables
+-- ---- Rows do not depend on other variables
 
 sum_same : (types : List Ty) (f g : ℕ → Rational) (ts : List (ℕ × ℤ)) → All (λ t. is_numeric (types_in types t.0) ≡ true) ts → ((x : ℕ) → is_numeric (types_in types x) ≡ true → list_any (λ t. eqb t.0 x) ts ≡ true → f x ≡ g x) → sum_of f ts ≡ sum_of g ts
 unfolding sum_of
@@ -68,7 +69,7 @@ sum_same types f g (t ∷ ts) n h = ap₂ (λ a b. (whole t.1 *ʳ a) +ʳ b) (h t
 row_same : (types : List Ty) (f g : ℕ → Rational) (r : Row) → IsNumericRow types r → ((x : ℕ) → is_numeric (types_in types x) ≡ true → occurs_in_row x r ≡ true → f x ≡ g x) → MeetsAt f r → MeetsAt g r
 row_same types f g r n h m = record { met = subst (λ y. IsBelowZero r.strict (y +ʳ whole r.rest)) (sum_same types f g r.terms n.numeric h) m.met }
 
--- f and g agree on the variables of numbers that occur in the rows.
+-- `f` and `g` agree on the numeric variables that occur in the rows.
 abbrev AgreeOn : List Ty → List Row → (ℕ → Rational) → (ℕ → Rational) → Type 0
 AgreeOn types rows f g = (x : ℕ) → is_numeric (types_in types x) ≡ true → 0 < occurrences x rows → f x ≡ g x
 
@@ -90,20 +91,17 @@ rows_same types f g (r ∷ rows) n h m = All-cons (MeetsAt g) r rows (row_same t
 
 -- ---- The chosen values
 
--- A variable of numbers has a type.
 pub number_below : (types : List Ty) (x : ℕ) → is_numeric (types_in types x) ≡ true → x < length types
 number_below [] x e = absurd (cc)
 number_below (ty ∷ types) zero e = omega arith
 number_below (ty ∷ types) (suc x) e = let h = number_below types x e in omega (arith, h)
 
--- The values that are chosen for solvable rows over numbers meet them.
 pub greedy_meets : (rows : List Row) (vars : List Ty) (cs : List (ℕ × Rational)) → IsSolvable rows → All (IsNumericRow vars) rows → ChoosesFrom rows vars (Greedy.chose cs) → All (MeetsAt (λ x. chosen_value x cs)) rows
 greedy_meets rows vars cs s n c = let h = completed rows vars (reverse (order_of rows (length vars))) [] cs c (record { at_values = s.at_values; agrees = All-nil _; meets = s.meets }) in rows_same vars h.at_values (λ x. chosen_value x cs) rows n (λ x k o. sym (value_agrees h.at_values x cs h.agrees (chosen_any rows vars x (reverse (order_of rows (length vars))) [] cs c (ap (λ b. b || false) (turned_order rows (length vars) x (number_below vars x k) o))))) h.meets
 
 pub greedy_whole : (rows : List Row) (vars : List Ty) (cs : List (ℕ × Rational)) (x : ℕ) → ChoosesFrom rows vars (Greedy.chose cs) → (is_integral (types_in vars x) ≡ true) → (chosen_value x cs).den ≡ 1
 greedy_whole rows vars cs x c t = value_whole vars x cs (chosen_whole rows vars (reverse (order_of rows (length vars))) [] cs c (All-nil _)) t
 
--- What holds of 0, and of the value of each variable that occurs_in_row, holds of each value.
 pub greedy_value : (P : Rational → Type 0) (rows : List Row) (vars : List Ty) (cs : List (ℕ × Rational)) (x : ℕ) → ChoosesFrom rows vars (Greedy.chose cs) → P zeroʳ → (0 < occurrences x rows → P (chosen_value x cs)) → P (chosen_value x cs)
 greedy_value P rows vars cs x c z h = go (value_chosen (λ y. 0 < occurrences y rows) x cs (chosen_all (λ y. 0 < occurrences y rows) rows vars (reverse (order_of rows (length vars))) [] cs c (turned_occurs rows (length vars)) (All-nil _)))
   where

@@ -1,4 +1,4 @@
--- The halves of a piece: their paths, and what stands at the ends of these.
+-- The halves of a piece: their paths, and the ends of these paths.
 use Rattle.std.proofs.Common.{◌≡◌, ℕ, ℤ, List, [], ◌∷◌, ◌++◌, sym, ◌∙◌, Bool, true, false}
 use Rattle.std.specs.Prelude.{cond}
 use Rattle.heyvl_num.specs.Rational.{Rational}
@@ -17,7 +17,6 @@ use Rattle.linear_rows.specs.Row.{Row}
 use Rattle.linear_rows.specs.VariableTypes.{is_integral}
 use Rattle.region_split.specs.Pieces.{BreaksAbove, IsSplitAt}
 
--- Past a result there is nothing to answer.
 walk_past : {A : Type 0} (t : Query A) (qs ss : List Taken) (a : A) → walk t qs ≡ done a → walk t (qs ++ ss) ≡ done a
 walk_past (done b) qs ss a e = e
 walk_past bits qs ss a e = absurd (cc)
@@ -34,7 +33,6 @@ end_past g ps q b e h = walk_past (questions g) ps _ e h
 pub plain_before : (g : Goal) (ps : List Taken) (q : Atom) (b : Bool) (e : Ends) → end_at g ps ≡ done e → IsPlainAt g (onto ps q b) → IsPlainAt g ps
 plain_before g ps q b e h p = record { ends = p.ends; at_end = h ∙ sym (end_past g ps q b e h) ∙ p.at_end; plain = p.plain }
 
--- The choice breaks at a variable whose values are whole.
 broke_whole : (rows : List Row) (vars : List Ty) (xs : List ℕ) (cs ds : List (ℕ × Rational)) (x : ℕ) (i : Interval) → Chooses rows vars xs cs (Greedy.broke x ds i) → is_integral (types_in vars x) ≡ true
 broke_whole rows vars _ cs ds x i (Chooses.takes y ys _ j v _ a c r) = broke_whole rows vars ys (cs ++ (y, v) ∷ []) ds x i r
 broke_whole rows vars _ cs ds x i (Chooses.breaks _ ys _ _ a b) = b.whole_type

@@ -1,4 +1,4 @@
--- Fractions are the same where their numerators and their denominators are.
+-- Fractions are equal if their numerators and denominators are.
 use Rattle.std.proofs.Common.{◌≡◌, ℕ, ◌<◌, List, refl, sym, ap₂, ◌∙◌, Bool, true, false}
 use Rattle.std.specs.Prelude.{pos, not, ◌&&◌}
 use Rattle.std.specs.Int.RustNames.{unsigned_abs}

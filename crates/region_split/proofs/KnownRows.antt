@@ -1,4 +1,4 @@
--- The rows of the answers to a question are the same behind each path.
+-- The rows of the answers to a comparison are the same after each path.
 use Rattle.std.proofs.Common.{◌≡◌, List, [], ◌∷◌, ◌++◌, refl, sym, ap, ◌∙◌, Bool}
 use Rattle.std.specs.Prelude.{Option, Some, None, not, if◌then◌else◌}
 use Rattle.std.proofs.lemmas.List.{append-nil}
@@ -11,7 +11,6 @@ use Rattle.linear_form.specs.PathRows.{path_claims, answer_claims, claim, negate
 use Rattle.linear_form.specs.RowLists.{ArePathRows}
 use Rattle.region_split.specs.internal.KnownComparisons.{IsRowOf}
 
--- behind a path stands the row of the answer
 grown : (types : Types) (ps : List Taken) (t : Taken) (rows : List Row) (r : Row) → all_tightened types (path_claims ps) ≡ Some rows → all_tightened types (answer_claims t.atom t.held) ≡ Some (r ∷ []) → all_tightened types (path_claims (ps ++ (t ∷ []))) ≡ Some (rows ++ (r ∷ []))
 grown types [] t rows r e f = let k : [] ≡ rows = cc in ap (all_tightened types) (append-nil (answer_claims t.atom t.held)) ∙ f ∙ ap (λ xs. Some (xs ++ (r ∷ []))) k
 grown types (p ∷ ps) t rows r e f = by_question p.atom p.held e (λ xs k. grown types ps t xs r k f)
@@ -25,7 +24,6 @@ grown types (p ∷ ps) t rows r e f = by_question p.atom p.held e (λ xs k. grow
     by_question (Atom.truth x) held h i = i rows h
     by_question (Atom.row a strict) held h i = by_row (tightened types (if held then claim a strict else claim (negated a) (not strict))) (all_tightened types (path_claims ps)) h i
 
--- and the row behind a path is that of the answer
 taken_alone : (types : Types) (ps : List Taken) (t : Taken) (rows : List Row) (r : Row) → all_tightened types (path_claims ps) ≡ Some rows → all_tightened types (path_claims (ps ++ (t ∷ []))) ≡ Some (rows ++ (r ∷ [])) → all_tightened types (answer_claims t.atom t.held) ≡ Some (r ∷ [])
 taken_alone types [] t rows r e f = let k : [] ≡ rows = cc in sym (ap (all_tightened types) (append-nil (answer_claims t.atom t.held))) ∙ f ∙ ap (λ xs. Some (xs ++ (r ∷ []))) (sym k)
 taken_alone types (p ∷ ps) t rows r e f = by_question p.atom p.held e f (λ xs i j. taken_alone types ps t xs r i j)

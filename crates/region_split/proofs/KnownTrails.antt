@@ -1,4 +1,4 @@
--- What is known of a question tells the rows of its answers wherever the path asks it.
+-- A known comparison has the same rows wherever the path asks it.
 use Rattle.std.proofs.Common.{◌≡◌, List, [], ◌∷◌, ◌++◌, refl, sym, ◌∙◌, subst, Bool, true, false}
 use Rattle.heylo_formula.specs.Goals.{Goal}
 use Rattle.linear_form.specs.Query.{Atom, Taken, onto}
@@ -14,7 +14,6 @@ use Rattle.region_split.proofs.WalkMoves.{snoc_first}
 use Rattle.region_split.proofs.Trails.{rows_before_last, stands_still}
 use Rattle.region_split.proofs.KnownRows.{row_behind, row_alone}
 
--- the trail stands where it did, where the rows of the two answers are behind what is known of the comparisons now
 pub known_further : (g : Goal) (ps : List Taken) (a q : Atom) (t : Trail) (rows : AnswerRows) (known : List Known) → (a ≡ q) × AreAnswerRows g ps q t rows → (AreKnown g.types t.atoms → IsRowOf g.types a true rows.yes → IsRowOf g.types a false rows.no → AreKnown g.types known) → StandsAt g ps (record { path = t.path; places = t.places; rows = t.rows; atoms = known; occurrences = t.occurrences; search = t.search })
 known_further g ps a q t rows known k h =
     let at = k.1.at in
@@ -23,7 +22,6 @@ known_further g ps a q t rows known k h =
     let no = subst (λ x. IsRowOf g.types x false rows.no) (sym k.0) (row_alone g ps q false t.rows.items rows.no own k.1.no) in
     record { stands = (stands_still g t _ at.stands refl refl refl refl refl (h at.stands.known yes no)).stands; path = at.path }
 
--- behind the path's last answer
 pub last_row_known : (g : Goal) (ps before : List Taken) (q : Atom) (held : Bool) (rows more : List Row) (r copy : Row) → AreRowsSoFar g ps rows → ps ≡ onto before q held → IsRowOf g.types q held r → copy ≡ r → more ≡ rows ++ (copy ∷ []) → ArePathRows g ps more
 last_row_known g ps before q held rows more r copy h e k c m =
     let l = rows_before_last g ps before (record { atom = q; held = held }) rows h e in

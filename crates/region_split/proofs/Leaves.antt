@@ -32,7 +32,7 @@ use Rattle.region_split.specs.internal.Progress.{HasFalsePoint, HoldsAt, IsBroke
 use Rattle.region_split.specs.declared.walk.Walk.{Walk}
 use Rattle.region_split.proofs.UniqueEnds.{ends_unique, point_false, point_not_broken}
 
--- ---- The trees of the program as plain trees
+-- ---- The trees of the program as those of the definitions
 
 split_tree : (a b : Box T.Tree Global) → tree_of (T.Split a b) ≡ Tree.split (tree_of a.value) (tree_of b.value)
 split_tree a b = ap tree_of (sym (T.TheVariants.rolls-Split a b)) ∙ fold-roll-Tree Tree tree_layer (Tree-F.Split a b) ∙ refl
@@ -57,7 +57,6 @@ same_whole x m a b t u e f = whole_layer x m a b ∙ ap (λ v. Tree.whole x m (t
 longer : (ps : List Taken) (q : Atom) (b : Bool) → length (onto ps q b) ≡ length ps + 1
 longer ps q b = length-append ps _
 
--- the depth of a tree that is made of two
 joined_depth : (n m k a b c : ℕ) → m ≡ n + 1 → k ≡ n + 1 → m + a ≤ 1000 → k + b ≤ 1000 → c ≡ 1 + max a b → n + c ≤ 1000
 joined_depth n m k a b c e f x y d = omega (arith, e, f, x, y, d)
 
@@ -164,7 +163,6 @@ grown_cell g ps c None a = inl (record { tree = a.tree; is_tree = IsWalkTree.pie
 pub closed_branch : (g : Goal) (ps : List Taken) (tree : Option T.Tree) → IsCell g ps → IsClosed g 0 ps tree → IsBranch g ps (ps ∷ []) tree
 closed_branch g ps tree c h = cell_branch g ps c tree (settled_by_ends g 0 ps [] c h.ends) (λ _. grown_cell g ps c tree h.grown)
 
--- where a cell has ends, the goal doesn't hold there by it
 has_no_ends : (g : Goal) (ps : List Taken) (q : List Taken) (more : List (List Taken)) → (IsPlainAt g ps → ⊥) → AreEnds g 0 ps (q ∷ more) → HoldsAt g ps → ⊥
 has_no_ends g ps q more n a (inl p) = n p
 has_no_ends g ps q more n a (inr b) = let e = ends_unique g 0 ps [] (q ∷ more) b a in absurd (cc)
@@ -179,7 +177,6 @@ point_or_holds g ps p a (inr e) = point_not_broken g 0 ps p [] a e (All-nil (Bre
 pub given_branch : (g : Goal) (ps : List Taken) (p : List Val) → IsCell g ps → HasFirstPoint g 0 ps p → IsBranch g ps (ps ∷ []) None
 given_branch g ps p c a = cell_branch g ps c None (IsSettled.falsified c (point_false g 0 ps p a)) (λ h. absurd (point_or_holds g ps p a h))
 
--- a false cell behind a point
 pub further_branch : (g : Goal) (ps : List Taken) → IsCell g ps → IsFalse g ps → HasFalsePoint g → IsBranch g ps (ps ∷ []) None
 further_branch g ps c f h = cell_branch g ps c None (IsSettled.falsified c f) (λ _. inr h)
 

@@ -1,4 +1,4 @@
--- What a decision means for the states of its goal.
+-- The meaning of a decision for the states of its goal.
 use Rattle.region_split.specs.DecisionLaws.{DecisionsTell}
 use Rattle.goal_answers.specs.declared.decisions.Decision.TheVariants.{Proved, Falsified, Unknown}
 use Rattle.region_split.proofs.ProvedGoals.{proved_holds}

@@ -1,4 +1,4 @@
--- Multipliers whose indexes are moved to where their rows stand combine them as before.
+-- Multipliers whose indexes are moved to those of their rows combine them as before.
 use Rattle.std.proofs.Common.{◌≡◌, ℕ, ◌+◌, ◌-◌, ◌<◌, ◌≤◌, ◌^◌, List, [], ◌∷◌, ◌++◌, length, get_or, take, drop, refl, sym, ap, ap₂, ◌∙◌, subst, arith, length-append, ltb, Bool, true, false, ◌⊎◌, inl, inr}
 use Rattle.std.specs.Prelude.{Some, ℤ, pos, ◌+ℤ◌, ◌*ℤ◌, ◌<ℤ◌, unsigned_abs, ◌||◌, if◌then◌else◌}
 use Rattle.std.specs.List.{All}
@@ -67,7 +67,7 @@ contradiction_moved rows more at ms h c = record {
     unmet (inl p) = inl (subst (λ z. pos 0 <ℤ z) (sym same) p)
     unmet (inr (e, s)) = inr (same ∙ e, strict_moved rows more at ms h c.within ∙ s)
 
--- ---- Rows among others
+-- ---- Subsequences of rows
 
 record FirstStands (r : Row) (rs ss : List Row) : Type 0 where
   first : Row
@@ -97,7 +97,7 @@ more_dropped n rows r rs e = let k : get_or rows n r ∷ drop (n + 1) rows ≡ r
 
 -- ---- The places, row by row
 
--- at the next row without a place, another row stands at the next place
+-- If another row is at the next place, the next row is later.
 pub record NextPlace (from : ℕ) (rows more : List Row) (places : List ℕ) (at : ℕ) : Type 0 where
   pub inside : at < length more
   pub when_same : row_at rows (length places) ≡ row_at more at → ArePlacesSoFar from rows more (places ++ (at ∷ [])) (at + 1)
@@ -195,7 +195,6 @@ places_start from rows more ns e l a = subst (λ ms. ArePlacesSoFar from rows mo
 seam : (xs : List Row) (r : Row) (ys : List Row) → drop (length xs + 1) (xs ++ (r ∷ ys)) ≡ ys
 seam xs r ys = drop-append-add xs (r ∷ ys) 1
 
--- behind the rows that are kept
 place_case : (kept : ℕ) (ns : List ℕ) (k : ℕ) → ((k < kept) × (place_of kept ns k ≡ k)) ⊎ ((kept ≤ k) × (place_of kept ns k ≡ get_or ns (k - kept) 0))
 place_case kept ns k = go (ltb k kept) refl
   where
@@ -229,7 +228,7 @@ moves first signs more others from ns e l h = record {
 
 -- ---- The rows of a path
 
--- where the rows of signs stand behind the denied goal
+-- The rows of signs after the denied goal.
 pub record SignsStand (first signs more : List Row) : Type 0 where
   pub others : List Row
   pub begins : more ≡ first ++ others
@@ -274,7 +273,6 @@ item_row rows k r l e = e ∙ get_or_default rows k r _ l
     get_or_default (x ∷ xs) zero a b l = refl
     get_or_default (x ∷ xs) (suc k) a b l = get_or_default xs k a b (omega (arith, l))
 
--- the next row stands at the next place, or another one does
 pub place_taken : (from : ℕ) (rows more : List Row) (ns ps : List ℕ) (at k : ℕ) (r m : Row) → ArePlacesSoFar from rows more ns at → length ns < length rows → k ≡ length ns → r ≡ get_or rows k r → m ≡ get_or more at m → r ≡ m → ps ≡ ns ++ (at ∷ []) → ArePlacesSoFar from rows more ps (at + 1)
 place_taken from rows more ns ps at k r m h l e f g s p =
     let n = next_place from rows more ns at h l in
@@ -289,7 +287,6 @@ place_passed from rows more ns ps at k r m h l e f g s p =
     let b = item_row more at m n.inside g in
     subst (λ qs. ArePlacesSoFar from rows more qs (at + 1)) (sym p) (n.when_other (λ q. s (a ∙ q ∙ sym b)))
 
--- as the program holds them
 pub within_held : (g : Goal) (ps : List Taken) (ms : List (ℕ × ℕ)) (first signs held : List Row) (kept : ℕ) (ns names : List ℕ) → kept ≡ length first → names ≡ ns → IsRefutedWith g ps false ms → rows_of g ps false ≡ Some (first ++ signs) → ArePlaces (kept + 1) signs held ns → All (λ (m : ℕ × ℕ). m.0 < kept + length names) ms
 within_held g ps ms first signs held kept ns names k n r e h = subst (λ j. All (λ (m : ℕ × ℕ). m.0 < j + length names) ms) (sym k) (subst (λ xs. All (λ (m : ℕ × ℕ). m.0 < length first + length xs) ms) (sym n) (within_rows g ps ms first signs held (kept + 1) ns r e h))
 

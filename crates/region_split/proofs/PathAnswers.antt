@@ -1,4 +1,4 @@
--- What the rows of a path come to, and what stands at a path.
+-- The solutions of the rows of a path, and the end of a path.
 use Rattle.std.proofs.Common.{◌≡◌, ℕ, List, Bool, true, false, refl, sym, ◌∙◌, ap, subst}
 use Rattle.std.specs.Prelude.{Option, Some, None, is_some, is_none, not, IsTrue}
 use Rattle.heylo_formula.specs.Goals.{Goal}
@@ -32,7 +32,7 @@ use Rattle.region_split.specs.Decisions.{Eliminates, IsLarge}
 use Rattle.region_split.specs.internal.PathFindings.{Looks, EndsWalk, IsPointAt, IsBreakAt, IsMetAt, IsEnd}
 use Rattle.region_split.specs.internal.Trails.{IsDroppedBy}
 
--- ---- What the elimination answers
+-- ---- The answers of the elimination
 
 pub has_point : (g : Goal) (ps : List Taken) (denied : Bool) (rows : List Row) (point : List Val) → rows_of g ps denied ≡ Some rows → IsGreedyPoint rows g.types point → MeetsAll point rows → IsPointAt g ps denied point
 has_point g ps denied rows point e greedy meets = record { rows = rows; are_rows = e; solvable = record { at_values = λ x. number_of (environment point x); meets = meets }; greedy = greedy }
@@ -54,7 +54,7 @@ pub no_rows : (g : Goal) (ps : List Taken) (denied : Bool) → rows_of g ps deni
 no_rows g ps false e cells r linear = (linear, IsLarge.in_rows ps cells r e)
 no_rows g ps true e cells r linear = (linear, IsLarge.in_piece r.0 ps cells r.1 e)
 
--- ---- What is found of rows
+-- ---- The proposals of the search
 
 pub refuted_rows : (g : Goal) (ps : List Taken) (denied : Bool) (rows : List Row) (ms : List (ℕ × ℕ)) → rows_of g ps denied ≡ Some rows → IsContradiction ms rows → IsRefutedWith g ps denied ms
 refuted_rows g ps denied rows ms e h = record { rows = rows; are_rows = e; contradiction = h }
@@ -79,7 +79,7 @@ is_dropped g ps ms r = record { rows = r.rows; are_rows = r.are_rows; unsolvable
 pub kept_where_met : (g : Goal) (ps : List Taken) → IsMetAt g ps false → IsKeptPath g ps
 kept_where_met g ps p = record { rows = p.rows; are_rows = p.are_rows; solvable = p.solvable }
 
--- ---- What is asked
+-- ---- The kinds of paths
 
 pub is_bits : (t : Query Ends) → Answers K.TheVariants.Bits t → t ≡ bits
 is_bits (done e) h = absurd h
@@ -89,7 +89,6 @@ is_bits (ask q y n) h = absurd h
 pub bits_there : (g : Goal) (ps : List Taken) → IsKeptPath g ps → Answers K.TheVariants.Bits (end_at g ps) → EndsWalk g ps false Bits
 bits_there g ps k a cells r linear = (linear, IsLarge.in_values ps cells r k (is_bits (end_at g ps) a))
 
--- the next question
 pub question_there : (g : Goal) (ps : List Taken) (q : A.Atom) → IsKeptPath g ps → Answers (K.TheVariants.Decide q) (end_at g ps) → GoesOn g ps (atom_of q)
 question_there g ps q k a = go (end_at g ps) refl a
   where
@@ -113,7 +112,6 @@ ends_there x y (done e) a = ap done (sym a)
 ends_there x y bits a = absurd a
 ends_there x y (ask q r n) a = absurd a
 
--- an end
 pub end_there : (g : Goal) (ps : List Taken) (x y : Option L.Lin) (plain : Bool) → IsKeptPath g ps → Answers (K.TheVariants.End x y) (end_at g ps) → plain ≡ is_none (denial g.upper (linear_of x, linear_of y)) → IsEnd g ps plain
 end_there g ps x y plain k a h =
     let e = ends_there x y (end_at g ps) a in
@@ -133,7 +131,6 @@ end_there g ps x y plain k a h =
 undenied_bits : (upper : Bool) (t : Query Ends) → Answers K.TheVariants.Bits t → is_some (denial_at upper t) ≡ false
 undenied_bits upper t a = ap (λ s. is_some (denial_at upper s)) (is_bits t a)
 
--- where the denied goal isn't among the rows, their multipliers are a certificate's
 pub dropped_by : (g : Goal) (ps : List Taken) (denied : Bool) (ms ns : List (ℕ × ℕ)) → has_denied g ps ≡ denied → IsRefutedWith g ps false ms → IsRefutedWith g ps denied ns → IsDroppedBy g ps ns
 dropped_by g ps denied ms ns e d r = record { dropped = is_dropped g ps ms d; refuted = subst (λ b. IsRefutedWith g ps b ns) (sym e) r }
 
@@ -148,7 +145,6 @@ undenied_question upper q (ask r y n) h = refl
 pub question_undenied : (g : Goal) (ps : List Taken) (q : A.Atom) → Answers (K.TheVariants.Decide q) (end_at g ps) → has_denied g ps ≡ false
 question_undenied g ps q a = undenied_question g.upper q (end_at g ps) a
 
--- nor is it where there is no end
 pub unended_undenied : (g : Goal) (ps : List Taken) → IsNoEnd g ps → has_denied g ps ≡ false
 unended_undenied g ps n = go (end_at g ps) refl
   where
@@ -174,7 +170,6 @@ end_denied g ps x y b a e f = at_an_end g.upper x y (end_at g ps) a ∙ some_or_
 
 -- ---- A dropped end
 
--- the denied goal's row can't be stated
 pub unstated : (g : Goal) (ps : List Taken) (ms : List (ℕ × ℕ)) → IsRefutedWith g ps false ms → rows_of g ps true ≡ None → EndsWalk g ps false Bits
 unstated g ps ms d e cells r linear = (linear, IsLarge.in_denied_goal ps cells r (is_dropped g ps ms d) e)
 

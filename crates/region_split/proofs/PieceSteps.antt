@@ -1,4 +1,4 @@
--- How a piece that is split shows what its halves show.
+-- The result of a piece that is split, from the results of its halves.
 use Prim.Native.Nat.{suc}
 use Rattle.std.proofs.Common.{◌≡◌, ℕ, ℤ, ◌+◌, ◌<◌, ◌≤◌, ◌^◌, List, [], ◌∷◌, ◌++◌, length, take, refl, sym, ap, ◌∙◌, subst, arith, length-append, Vec, Global, Bool, true, false, pos, unsigned_abs}
 use Rattle.std.specs.List.{All}
@@ -54,9 +54,8 @@ use Rattle.region_split.specs.internal.Progress.{EndsPiece, IsBroken, IsCellStan
 use Rattle.region_split.specs.declared.pieces.Piece.{Piece}
 use Rattle.region_split.specs.internal.PathFindings.{EndsWalk, IsBreakAt, IsPointAt}
 
--- ---- Where a walk ends
+-- ---- The end of a walk
 
--- the walk that looks at a piece that is split looks at its first half, and at the second where each end of the first one breaks
 at_first : (g : Goal) (n : ℕ) (ps : List Taken) (x : ℕ) (m : ℤ) (cells : List (List Taken)) → IsSplitAt g n ps x m → IsLookedAt g n ps cells → IsLookedAt g (suc n) (first_half ps x m) cells
 at_first g n ps x m cells s h = record { cell = h.cell; reached = h.reached; few = h.few; is_cell = h.is_cell; not_plain = h.not_plain; piece = IsPieceOf.first n ps x m h.piece s }
 
@@ -72,7 +71,7 @@ second_ends g n ps x m es cause s a b h cells l linear = h cells (at_second g n 
 pub piece_ends : (g : Goal) (n : ℕ) (ps : List Taken) (cause : Cause) → EndsWalk g ps true cause → EndsPiece g n ps cause
 piece_ends g n ps cause h cells l linear = h cells (n, l) linear
 
--- ---- What the halves show
+-- ---- The results of the halves
 
 pub all_broken : (g : Goal) (n : ℕ) (ps : List Taken) (b : Broken) (k : IsBroken g n ps b) → All (Breaks g) (k.path ∷ k.after)
 all_broken g n ps b k = All-cons (Breaks g) k.path k.after (breaks g k.path b k.breaks_here) k.broken_after
@@ -88,12 +87,11 @@ deepest_breaks g n ps rows e b t s l h =
     let k = break_of g ps b t s.is_path h in
     record { path = ps; after = []; ends = AreEnds.deepest n ps l (break_is_false g ps b s.not_plain h) (breaks g ps b k); breaks_here = k; broken_after = All-nil (Breaks g) }
 
--- ---- Where a piece is split
+-- ---- The split of a piece
 
 pub breaks_above : (g : Goal) (ps : List Taken) (b : Broken) (m : ℤ) → IsBreakAt g ps true b → m ≡ floorʳ b.low → BreaksAbove g ps b.var m
 breaks_above g ps b m h e = record { rows = h.rows; are_rows = h.are_rows; solvable = h.broken.solvable; earlier = h.broken.chosen; interval = ends_of b; choice = h.broken.choice; low = record { place = b.low; inside = b.low_in }; has_low = refl; bound = e }
 
--- the floor of a fraction whose numerator is below the bound
 floor_small : (a : ℤ) (b : ℕ) → 0 < b → unsigned_abs (int_div_euclid a (pos b)) ≤ unsigned_abs a
 floor_small (pos a) b p = div-le_self a b
 floor_small (negsuc a) b p = omega (arith, div-le_self a b)
@@ -108,7 +106,6 @@ floor_narrow x h = let s = floor_small x.num x.den x.positive in let n = num_les
 pub splits_narrow : SplitsAreNarrow
 splits_narrow rows types b h = floor_narrow b.low h.1.low
 
--- a number that is below the bound
 narrow_found : (z m : ℤ) → Some m ≡ narrow_value z → (is_narrow z ≡ true) × (m ≡ z)
 narrow_found z m h = go (is_narrow z) h
   where
@@ -124,7 +121,6 @@ split_here g n ps rows e b z m s l h f k =
 pub some_split_here : (g : Goal) (ps : List Taken) (b : Broken) (z : ℤ) (o : Option ℤ) → IsBreakAt g ps true b → z ≡ floorʳ b.low → o ≡ narrow_value z → is_some o ≡ true
 some_split_here g ps b z o h f k = let n : is_narrow z ≡ true = ap is_narrow f ∙ floor_narrow b.low h.narrow.low in ap is_some k ∙ ap (λ (t : Bool). is_some (cond t (Some z) None)) n
 
--- the values of the two forms at an end
 the_ends : (g : Goal) (ps : List Taken) (e : E.End) → Answers (K.TheVariants.End e.stated e.found) (end_at g ps) → (f : Ends) × (end_at g ps ≡ done f)
 the_ends g ps e a = go (end_at g ps) a
   where
@@ -133,7 +129,6 @@ the_ends g ps e a = go (end_at g ps) a
     go bits h = absurd h
     go (ask q y n) h = absurd h
 
--- the path of a half
 pub half_onto : (ps qs : List Taken) (x : ℕ) (m : ℤ) (t : P.Taken) (held : Bool) → qs ≡ ps ++ (taken_of t ∷ []) → atom_of t.atom ≡ split_at x m → t.held ≡ held → qs ≡ onto ps (split_at x m) held
 half_onto ps qs x m t held e a h = path_onto ps qs t held e h ∙ ap (λ q. onto ps q held) a
 
@@ -158,7 +153,7 @@ lacks_half g ps qs x m held rows own r e k = subst (LackLastRow g qs) (sym e) (r
 pub half_lost : (g : Goal) (n : ℕ) (ps qs : List Taken) → qs ≡ ps → all_tightened (types_in g.types) (path_claims qs) ≡ None → EndsPiece g n ps Bits
 half_lost g n ps qs k e = piece_ends g n ps Bits (no_rows g ps true (unstated_denied g ps (subst (λ xs. all_tightened (types_in g.types) (path_claims xs) ≡ None) k e)))
 
--- ---- What a piece comes to by its rows
+-- ---- The result of a piece by its rows
 
 pub few_rows : (g : Goal) (n : ℕ) (ps : List Taken) (rows : List Row) (e : E.End) (k m : ℕ) → IsPieceStand g n ps rows e → m ≡ length ps → k ≤ m + 1 + length g.types → k < 2 ^ 32
 few_rows g n ps rows e k m s l h = let f = s.few in let t = s.short in omega (arith, l, h, f, t)
@@ -172,7 +167,6 @@ piece_closed g n ps rows e ms tree k s l t r = let f = the_ends g ps e s.values 
 pub piece_given : (g : Goal) (n : ℕ) (ps : List Taken) (rows : List Row) (e : E.End) (values point : List Val) → IsPieceStand g n ps rows e → IsPointAt g ps true values → point ≡ with_truths ps 0 values → HasFirstPoint g n ps point
 piece_given g n ps rows e values point s p t = HasFirstPoint.whole n ps point (point_is_false g ps values s.not_plain p) (point_of g ps values point p t)
 
--- what a piece shows, told of an equal path
 pub same_shown : {E : Type 0} (g : Goal) (n m : ℕ) (ps qs : List Taken) (r : Result Piece E) → n ≡ m → ps ≡ qs → IfOk r (λ p. IsPieceShown g n ps p) → IfOk r (λ p. IsPieceShown g m qs p)
 same_shown g n m ps qs r e k h = subst (λ i. IfOk r (λ p. IsPieceShown g i qs p)) e (subst (λ xs. IfOk r (λ p. IsPieceShown g n xs p)) k h)
 

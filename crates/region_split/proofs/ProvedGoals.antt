@@ -1,4 +1,4 @@
--- The walk's tree is a certificate, and so a proved goal holds in every state.
+-- The tree of the walk is a certificate, so a proved goal holds in each state.
 use Prim.Native.Nat.{suc}
 use Rattle.std.proofs.Common.{ℕ, List, [], true, false}
 use Rattle.std.specs.Prelude.{◌≡◌, Option, None}

@@ -14,7 +14,6 @@ use Rattle.region_split.proofs.WalkMoves.{all_first, at_place}
 use Rattle.region_split.proofs.Leaves.{point_or_holds}
 use Rattle.region_split.proofs.UniqueWalks.{located}
 
--- where the goal holds in each cell, no point was found
 no_false_point : (g : Goal) (all : List (List Taken)) (tree : Option F.Tree) → All (HoldsAt g) all → IsBranch g [] all tree → HasFalsePoint g → ⊥
 no_false_point g all tree h b f =
     let l = located g f.path f.before all f.are_before b.are_cells in

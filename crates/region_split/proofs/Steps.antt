@@ -1,4 +1,4 @@
--- How a walk goes on from its path.
+-- The steps of a walk.
 use Rattle.std.proofs.Common.{◌≡◌, ℕ, ◌+◌, ◌<◌, ◌≤◌, ◌^◌, List, [], ◌∷◌, ◌++◌, length, take, refl, sym, ap, ◌∙◌, subst, arith, length-append, Vec, Global, Bool, true, false, inl, inr}
 use Rattle.std.specs.Prelude.{Option, Some, None, Result, IfOk, option_to_list}
 use Rattle.std.specs.Option.{option_flatten}
@@ -40,12 +40,11 @@ use Rattle.region_split.proofs.CellOrder.{are_before, front_path, stands_front, 
 use Rattle.region_split.proofs.CellsFound.{found_holds, met_is_false, point_longer}
 use Rattle.region_split.proofs.Leaves.{broken_branch, closed_branch, closed_leaf, dropped_leaf, further_branch, given_branch, plain_leaf, dropped_finished, cell_finished}
 
--- ---- Paths that the program holds
+-- ---- The paths of the program
 
 pub path_onto : (xs ys : List Taken) (p : T.Taken) (b : Bool) → ys ≡ xs ++ (taken_of p ∷ []) → p.held ≡ b → ys ≡ onto xs (atom_of p.atom) b
 path_onto xs ys p b e h = e ∙ ap (λ c. xs ++ (taken (atom_of p.atom) c ∷ [])) h
 
--- how long the program finds a path to be
 pub path_length : (xs : List T.Taken) (n : ℕ) → n ≡ length xs → n ≡ length (path_of xs)
 path_length xs n e = let l = length-map xs taken_of in omega (arith, l, e)
 
@@ -88,7 +87,6 @@ question_finished g all from t before trees others tree joined left flat p r z e
       rest = let e = rest_up g xs (atom_of p.atom) s.goes_on in let m = ap (rest_of (questions g)) b in let l = r.rest in omega (arith, e, m, l);
     }
 
--- where the second branch isn't visited
 pub question_closed : (g : Goal) (all : List (List Taken)) (from : List Taken) (t before : Trail) (trees : List (Option F.Tree)) (tree right joined : Option F.Tree) (p : T.Taken) (ms : Vec (ℕ × ℕ) Global) (n : ℕ) → HasRisen g all from t trees tree → Rises g before → path_of t.path.items ≡ path_of before.path.items ++ (taken_of p ∷ []) → p.held ≡ true → (p.held ≡ true → IsDroppedBy g (onto (path_of before.path.items) (atom_of p.atom) false) ms.items) → n ≡ length (path_of t.path.items) → IsLeaf n (F.Farkas ms) right → ((ps : List Taken) (q : Atom) → GoesOn g ps q → IsGrown g (onto ps q true) tree → IsGrown g (onto ps q false) right → IsGrown g ps joined) → HasRisen g all from before trees joined
 question_closed g all from t before trees tree right joined p ms n r z e h w m k j =
     let xs = path_of before.path.items in
@@ -146,7 +144,7 @@ next_walk g w next tree h c k n f = (
   k.less,
 )
 
--- ---- Where a walk stands
+-- ---- The position of a walk
 
 pub come_front : (g : Goal) (ps : List Taken) (w : Walk) → HasCome g ps w → IsFront g ps
 come_front g ps w h = stands_front g ps h.before w.trees.items h.stands
@@ -160,7 +158,7 @@ come_path g ps w h = plain_path g ps (come_asked g ps w h)
 come_reached : (g : Goal) (ps : List Taken) (w : Walk) (h : HasCome g ps w) → IsReached g ps h.before
 come_reached g ps w h = let c = h.counted in let f = h.few in reached g ps h.before w.trees.items h.stands (omega (arith, c, f))
 
--- the walk once its trail stands at the front
+-- The walk with its trail at the front.
 abbrev pub with_trail : Walk → Trail → Walk
 with_trail w t = record { trail = t; trees = w.trees; count = w.count; found = w.found }
 
@@ -176,7 +174,6 @@ standing g w t i s = record {
   });
 }
 
--- the walk once its trail stands in the first branch
 pub standing_first : (g : Goal) (w : Walk) (t : Trail) (q : Atom) → IsStandingWalk g w → GoesOn g (path_of w.trail.path.items) q → StandsAt g (onto (path_of w.trail.path.items) q true) t → IsStandingWalk g (with_trail w t)
 standing_first g w t q h k s =
     let i = h.come in
@@ -191,7 +188,6 @@ standing_first g w t q h k s =
       });
     }
 
--- or in the second one, where the first one is dropped
 pub standing_second : (g : Goal) (w next : Walk) (q : Atom) (ms : Vec (ℕ × ℕ) Global) (tree : Option F.Tree) (m : ℕ) → IsStandingWalk g w → GoesOn g (path_of w.trail.path.items) q → StandsAt g (onto (path_of w.trail.path.items) q false) next.trail → IsDroppedBy g (onto (path_of w.trail.path.items) q true) ms.items → m ≡ length (path_of next.trail.path.items) → IsLeaf m (F.Farkas ms) tree → next.trees.items ≡ w.trees.items ++ (tree ∷ []) → next.count ≡ w.count → next.found ≡ w.found → IsStandingWalk g next
 standing_second g w next q ms tree m h k s d t e r n f =
     let i = h.come in
@@ -212,7 +208,6 @@ standing_second g w next q ms tree m h k s d t e r n f =
       });
     }
 
--- a step below a number is below a greater one
 below_more : (g : Goal) (n m : ℕ) (w : Walk) (s : Step) → n ≤ m → IsBelow g n w s → IsBelow g m w s
 below_more g n m w Step.On l h = (h.0, let k = h.1 in omega (arith, k, l))
 below_more g n m w (Step.Asks q p) l h = (h.0, let k = h.1 in omega (arith, k, l))
@@ -228,7 +223,6 @@ here g t s = record { stands = s; path = refl }
 pub step_from : {E : Type 0} (g : Goal) (ps qs : List Taken) (w : Walk) (r : Result Step E) → qs ≡ ps → IfOk r (λ s. IsStep g qs w s) → IfOk r (λ s. IsStep g ps w s)
 step_from g ps qs w r e h = subst (λ xs. IfOk r (λ s. IsStep g xs w s)) e h
 
--- the cause of a front, and that of a cell
 pub front_ends : (g : Goal) (ps : List Taken) (w : Walk) (cause : Cause) → nonlinear_product g ≡ None → HasCome g ps w → EndsWalk g ps false cause → IsCause g cause
 front_ends g ps w cause l h r = r h.before (come_reached g ps w h) l
 
@@ -255,30 +249,25 @@ judged g ps found next tree b f = record { branch = λ _. b; shown = f }
 pub plain_cell : (g : Goal) (ps : List Taken) (found : Found) (plain : Bool) (tree : Option F.Tree) (n : ℕ) → n ≡ length ps → IsLeaf n F.Plain tree → IsEnd g ps plain → plain ≡ true → IsJudgedCell g ps found found tree
 plain_cell g ps found plain tree n l t e k = let p = e.holds_plainly.0 k in judged g ps found found tree (plain_leaf g ps plain tree (subst (λ i. IsLeaf i F.Plain tree) l t) e p) (λ cells i. found_holds g cells ps found i (inl p))
 
--- a cell with this end
 pub cell_of : (g : Goal) (ps : List Taken) (plain : Bool) → IsFront g ps → IsEnd g ps plain → IsCell g ps
 cell_of g ps plain f e = cell_here g ps plain f e
 
--- a cell without ends
 pub closed_cell : (g : Goal) (ps : List Taken) (found : Found) (tree : Option F.Tree) → IsCell g ps → IsClosed g 0 ps tree → IsJudgedCell g ps found found tree
 closed_cell g ps found tree c h = judged g ps found found tree (closed_branch g ps tree c h) (λ cells i. found_holds g cells ps found i (inr h.ends))
 
--- a cell with ends, each of which breaks
 pub broken_cell : (g : Goal) (ps : List Taken) (found next : Found) (b : Broken) → IsCell g ps → (IsPlainAt g ps → ⊥) → IsBroken g 0 ps b → ((cells : List (List Taken)) (ps : List Taken) → IsFound g cells found → IsBroken g 0 ps b → IsFound g (cells ++ (ps ∷ [])) next) → IsJudgedCell g ps found next None
 broken_cell g ps found next b c n k f = judged g ps found next None (broken_branch g ps b c n k) (λ cells i. f cells ps i k)
 
--- a cell that gives a point
 pub given_cell : (g : Goal) (ps : List Taken) (found next : Found) (p : List Val) → IsCell g ps → HasFirstPoint g 0 ps p → ((cells : List (List Taken)) (ps : List Taken) → IsFound g cells found → IsCell g ps → HasFirstPoint g 0 ps p → IsFound g (cells ++ (ps ∷ [])) next) → IsJudgedCell g ps found next None
 given_cell g ps found next p c a f = judged g ps found next None (given_branch g ps p c a) (λ cells i. f cells ps i c a)
 
--- a further cell, where a point is known: its rows are refuted, or it is false
+-- A further cell after a point is known: its rows are refuted, or it is false.
 pub refuted_cell : (g : Goal) (ps : List Taken) (point : Vec Val Global) (e : Ends) (ms : Vec (ℕ × ℕ) Global) (tree : Option F.Tree) (n : ℕ) → n ≡ length ps → IsLeaf n (F.Farkas ms) tree → IsCell g ps → end_at g ps ≡ done e → (IsPlainAt g ps → ⊥) → IsRefutedWith g ps true ms.items → IsJudgedCell g ps (Found.Point point) (Found.Point point) tree
 refuted_cell g ps point e ms tree n l t c h k r = closed_cell g ps (Found.Point point) tree c (closed_leaf g 0 ps e ms tree (subst (λ i. IsLeaf i (F.Farkas ms) tree) l t) h k r)
 
 pub further_cell : (g : Goal) (ps : List Taken) (point : Vec Val Global) → IsCell g ps → (IsPlainAt g ps → ⊥) → IsMetAt g ps true → IsJudgedCell g ps (Found.Point point) (Found.Point point) None
 further_cell g ps point c k p = record { branch = λ h. further_branch g ps c (met_is_false g ps k p) h; shown = λ cells j. point_longer g cells ps point.items j }
 
--- a walk knows where a point was found
 knows_point : (g : Goal) (ps : List Taken) (w : Walk) → HasCome g ps w → KnowsPoint g w.found
 knows_point g ps w h = go w.found h.found
   where
@@ -290,7 +279,8 @@ knows_point g ps w h = go w.found h.found
 pub cell_walk : (g : Goal) (w next : Walk) (found : Found) (tree : Option F.Tree) → IsStandingWalk g w → w.count < 4096 → StandsAt g (path_of w.trail.path.items) next.trail → next.count ≡ w.count + 1 → next.trees ≡ w.trees → next.found ≡ found → IsJudgedCell g (path_of w.trail.path.items) w.found found tree → IsFinishedWalk g next tree
 cell_walk g w next found tree h l s k t f j = cell_finished g w next tree h l k s t (j.branch (knows_point g (path_of w.trail.path.items) w h.come)) (λ cells i. subst (IsFound g (cells ++ (path_of w.trail.path.items ∷ []))) (sym f) (j.shown cells i))
 
--- what a cell is looked at with: its rows with the denied goal, which begin with those of its comparisons
+-- The premises for deciding a cell: its rows with the denied goal, which begin with those of its
+-- answers.
 pub cell_stands : (g : Goal) (w : Walk) (path : List T.Taken) (list : List Row) (kept : ℕ) (e : E.End) → IsTypedGoal g → AreShort g → IsStandingWalk g w → IsEndOf g (path_of w.trail.path.items) e → e.plain ≡ false → path ≡ w.trail.path.items → AreRowsAt g (path_of w.trail.path.items) true list → kept ≡ length w.trail.rows.items → take (length w.trail.rows.items) list ≡ w.trail.rows.items → IsCellStand g (path_of path) list kept e
 cell_stands g w path list kept e t s h a n p r k f =
     let ps = path_of w.trail.path.items in
@@ -319,6 +309,5 @@ start_walk g w c e t n f = record {
   };
 }
 
--- the greedy point has a value for each variable
 pub point_length : (g : Goal) (ps : List Taken) (denied : Bool) (point : List Val) → IsPointAt g ps denied point → length point ≡ length g.types
 point_length g ps denied point p = p.greedy.state.each

@@ -1,4 +1,4 @@
--- What stands along a path, when an answer comes to it and when the last one is taken off.
+-- The data along a path, when an answer is added and when the last one is removed.
 use Rattle.std.proofs.Common.{◌≡◌, ℕ, ◌-◌, ◌≤◌, List, [], ◌∷◌, ◌++◌, length, take, drop, refl, sym, ap, ◌∙◌, subst, arith, length-append, append_assoc, true, false}
 use Rattle.std.specs.Prelude.{Option, Some, None, slice_get}
 use Rattle.std.proofs.lemmas.List.{append-nil, map-append, take-append-drop, take-take, length-take, length-map}
@@ -27,9 +27,9 @@ use Rattle.region_split.specs.internal.Trails.{IsWay, ArePlaces, AreRowsSoFar, C
 use Rattle.region_split.specs.internal.KnownComparisons.{AreKnown}
 use Rattle.region_split.proofs.WalkMoves.{snoc_first, snoc_last, snoc_not_empty}
 
--- ---- What is kept of the answers
+-- ---- The data of the answers
 
--- an evaluation that is kept last stands on the path, and where it asked the last question on the path before it
+-- The last evaluation is on the path; if it asked the last comparison, it is on the path before.
 pub record HasLast (g : Goal) (ps : List Taken) (places : List Way) : Type 0 where
   pub before : List Way
   pub last : Way
@@ -57,7 +57,6 @@ slice_last : (before : List Way) (w : Way) → slice_get (before ++ (w ∷ [])) 
 slice_last [] w = refl
 slice_last (x ∷ xs) w = slice_last xs w
 
--- as it is read
 last_read : (g : Goal) (ps : List Taken) (places : List Way) (w : Way) (l : HasLast g ps places) → Some w ≡ slice_get places (length places - 1) → l.last ≡ w
 last_read g ps places w l e =
     let i = ap length l.split ∙ length-append l.before (l.last ∷ []) in
@@ -68,11 +67,10 @@ last_read g ps places w l e =
 pub last_on : (g : Goal) (ps : List Taken) (places : List Way) (w : Way) (p : Place) → ArePlaces g ps places → Some w ≡ slice_get places (length places - 1) → w ≡ Open p → IsOn g ps p
 last_on g ps places w p a e f = let l = has_last g ps places a in l.on p (last_read g ps places w l e ∙ f)
 
--- it asked the last question
 pub last_asked : (g : Goal) (ps : List Taken) (t : Taken) (places : List Way) (w : Way) (p : Place) → ArePlaces g (ps ++ (t ∷ [])) places → Some w ≡ slice_get places (length places - 1) → w ≡ Open p → IsOn g ps p
 last_asked g ps t places w p a e f = let l = has_last g (ps ++ (t ∷ [])) places a in l.asked ps t p refl (last_read g (ps ++ (t ∷ [])) places w l e ∙ f)
 
--- taken off with the last answer
+-- The data without the last answer.
 pub record Shorter (g : Goal) (ps : List Taken) (t : Taken) (places : List Way) (w : Way) : Type 0 where
   pub are_places : ArePlaces g ps places
   pub on : IsWay g ps t w
@@ -89,7 +87,6 @@ shorter_places g _ ps t _ places w (ArePlaces.answer rs u others q a h) e f =
       on = subst (λ x. IsWay g ps t x) k (subst (λ x. IsWay g ps x q) m (subst (λ xs. IsWay g xs u q) i h));
     }
 
--- the path, as it is read, before its last answer and with it
 pub path_split : (path before : List T.Taken) (t : T.Taken) → path ≡ before ++ (t ∷ []) → path_of path ≡ path_of before ++ (taken_of t ∷ [])
 path_split path before t e = ap path_of e ∙ map-append taken_of before (t ∷ [])
 
@@ -101,7 +98,6 @@ path_counted before n e = length-map before taken_of ∙ sym e
 pub same_path_rows : (g : Goal) (ps : List Taken) (rows others : List Row) → ArePathRows g ps rows → ArePathRows g ps others → rows ≡ others
 same_path_rows g ps rows others h k = let e = sym h.are_rows ∙ k.are_rows in cc
 
--- the rows of a path begin with those of a shorter one, which is what a search remembers
 shorter_rows : (g : Goal) (ps qs : List Taken) (rows more : List Row) → ArePathRows g ps rows → ArePathRows g (ps ++ qs) more → take (length rows) more ≡ rows
 shorter_rows g ps qs rows more h k =
     let e = same_path_rows g ps rows (take (length (path_claims ps)) more) h (path_rows_first g ps qs more k) in
@@ -110,17 +106,14 @@ shorter_rows g ps qs rows more h k =
 pub first_path_rows : (g : Goal) (ps qs : List Taken) (rows more : List Row) → ArePathRows g ps rows → ArePathRows g (ps ++ qs) more → more ≡ rows ++ drop (length rows) more
 first_path_rows g ps qs rows more h k = sym (take-append-drop (length rows) more) ∙ ap (λ xs. xs ++ drop (length rows) more) (shorter_rows g ps qs rows more h k)
 
--- those so far stand first
 pub rows_so_far : (g : Goal) (ps : List Taken) (rows more : List Row) (noted : ℕ) → AreRowsSoFar g ps rows → ArePathRows g ps more → noted ≡ length rows → take noted more ≡ rows
 rows_so_far g _ _ more noted AreRowsSoFar.start k e = ap (λ n. take n more) e
 rows_so_far g ps rows more noted (AreRowsSoFar.answer _ _ l) k e = ap (λ n. take n more) e ∙ shorter_rows g l.before (l.last ∷ []) rows more l.are_rows (subst (λ xs. ArePathRows g xs more) l.split k)
 
--- where there are no answers, none lacks its row
 pub rows_without_answers : (g : Goal) (ps : List Taken) (rows : List Row) → AreRowsSoFar g ps rows → length ps ≡ 0 → ArePathRows g ps rows
 rows_without_answers g _ _ AreRowsSoFar.start e = record { are_rows = refl }
 rows_without_answers g ps rows (AreRowsSoFar.answer _ _ l) e = let i = ap length l.split ∙ length-append l.before (l.last ∷ []) in absurd (omega (arith, e, i))
 
--- behind an answer they are those before it
 pub rows_before_last : (g : Goal) (ps before : List Taken) (t : Taken) (rows : List Row) → AreRowsSoFar g ps rows → ps ≡ before ++ (t ∷ []) → LackLastRow g ps rows
 rows_before_last g _ before t _ AreRowsSoFar.start e = absurd (snoc_not_empty before t e)
 rows_before_last g _ before t _ (AreRowsSoFar.answer _ _ l) e = l
@@ -132,7 +125,7 @@ pub remembers_last : (g : Goal) (ps : List Taken) (s : Search) (rows more : List
 remembers_last g _ s _ more AreRowsSoFar.start k r = remembers_longer g [] [] s [] more (record { are_rows = refl }) k r
 remembers_last g ps s rows more (AreRowsSoFar.answer _ _ l) k r = remembers_longer g l.before (l.last ∷ []) s rows more l.are_rows (subst (λ xs. ArePathRows g xs more) l.split k) r
 
--- ---- Rows that can't be stated
+-- ---- Rows that overflow
 
 unstated_first : (types : Types) (ks js : List Claim) → all_tightened types ks ≡ None → all_tightened types (ks ++ js) ≡ None
 unstated_first types [] js e = absurd (cc)
@@ -149,7 +142,7 @@ unstated_path g ps e = unstated_first (types_in g.types) (path_claims ps ++ []) 
 pub unstated_denied : (g : Goal) (ps : List Taken) → all_tightened (types_in g.types) (path_claims ps) ≡ None → rows_of g ps true ≡ None
 unstated_denied g ps e = unstated_first (types_in g.types) (path_claims ps ++ listed (denial_at g.upper (end_at g ps))) _ (unstated_first (types_in g.types) (path_claims ps) _ e)
 
--- ---- Rows that are made again
+-- ---- Rows that are computed again
 
 tightened_first : (types : Types) (ks js : List Claim) (rows list : List Row) → all_tightened types ks ≡ Some rows → all_tightened types (ks ++ js) ≡ Some list → take (length rows) list ≡ rows
 tightened_first types [] js rows list e f = let k : [] ≡ rows = cc in ap (λ xs. take (length xs) list) (sym k) ∙ k
@@ -182,13 +175,11 @@ rows_first g ps rows list h e = go
 
 -- ---- Trails
 
--- at the start of the way up
 pub rises : (g : Goal) (t : Trail) → Stands g t → Rises g t
 rises g t h =
     let e = sym (append-nil t.rows.items) in
     record { places = h.places; rows = h.rows; more = []; occurrences = subst (λ rows. AreOccurrences (length g.types) rows t.occurrences) e h.occurrences; remembers = subst (Remembers t.search.value) e h.remembers; known = h.known }
 
--- without its last answer
 pub stood_before : (g : Goal) (t before : Trail) (answer : T.Taken) (way : Way) (left count : ℕ) → Rises g t → t.path.items ≡ before.path.items ++ (answer ∷ []) → t.places.items ≡ before.places.items ++ (way ∷ []) → length (answer_claims (atom_of answer.atom) answer.held) ≡ count → left ≡ length t.rows.items - count → before.rows.items ≡ take left t.rows.items → before.occurrences ≡ t.occurrences → before.search ≡ t.search → AreKnown g.types before.atoms → StoodBefore g t before answer way
 stood_before g t before answer way left count h p q n l r o m kn =
     let ps = path_of before.path.items in
@@ -207,11 +198,9 @@ stood_before g t before answer way left count h p q n l r o m kn =
       path = e;
     }
 
--- there is an evaluation
 pub no_places : (g : Goal) (t : Trail) → Rises g t → length t.places.items ≡ 0 → ⊥
 no_places g t h e = let l = has_last g (path_of t.path.items) t.places.items h.places in let i = ap length l.split ∙ length-append l.before (l.last ∷ []) in absurd (omega (arith, e, i))
 
--- with one more answer
 pub comes_by : (g : Goal) (t next : Trail) (answer : T.Taken) (way : Way) → Rises g t → IsWay g (path_of t.path.items) (taken_of answer) way → next.path.items ≡ t.path.items ++ (answer ∷ []) → next.places.items ≡ t.places.items ++ (way ∷ []) → next.rows ≡ t.rows → AreOccurrences (length g.types) t.rows.items next.occurrences → Remembers next.search.value t.rows.items → AreKnown g.types next.atoms → ComesBy g t answer next
 comes_by g t next answer way h o p q r n s kn =
     let ps = path_of t.path.items in
@@ -227,7 +216,6 @@ comes_by g t next answer way h o p q r n s kn =
       };
     }
 
--- with one more answer and its row
 pub stands_further : (g : Goal) (ps : List Taken) (t next : Trail) (answer : T.Taken) (way : Way) (row : Row) → Stands g t → ps ≡ path_of t.path.items ++ (taken_of answer ∷ []) → IsWay g (path_of t.path.items) (taken_of answer) way → ArePathRows g ps (t.rows.items ++ (row ∷ [])) → next.path.items ≡ t.path.items ++ (answer ∷ []) → next.places.items ≡ t.places.items ++ (way ∷ []) → next.rows.items ≡ t.rows.items ++ (row ∷ []) → AreOccurrences (length g.types) next.rows.items next.occurrences → next.search ≡ t.search → AreKnown g.types next.atoms → StandsAt g ps next
 stands_further g ps t next answer way row h e o k p q r n s kn =
     let qs = path_of t.path.items in
@@ -244,7 +232,6 @@ stands_further g ps t next answer way row h e o k p q r n s kn =
       };
     }
 
--- the same once more
 pub stands_still : (g : Goal) (t next : Trail) → Stands g t → next.path.items ≡ t.path.items → next.places ≡ t.places → next.rows.items ≡ t.rows.items → next.occurrences ≡ t.occurrences → next.search ≡ t.search → AreKnown g.types next.atoms → StandsAt g (path_of t.path.items) next
 stands_still g t next h p q r o s kn = record {
   path = ap path_of p;
@@ -257,7 +244,6 @@ stands_still g t next h p q r o s kn = record {
   };
 }
 
--- before the first question
 pub comes_first : (g : Goal) (t : Trail) (p : Place) → IsOn g [] p → t.path.items ≡ [] → t.places.items ≡ Open p ∷ [] → t.rows.items ≡ [] → AreOccurrences (length g.types) [] t.occurrences → ((rows : List Row) → Remembers t.search.value rows) → AreKnown g.types t.atoms → Comes g t
 comes_first g t p o e q r n m kn =
     let a = ap path_of e in
@@ -269,7 +255,6 @@ comes_first g t p o e q r n m kn =
       known = kn;
     }
 
--- once the last answer has its row
 pub stands_with : (g : Goal) (t next : Trail) → Comes g t → ArePathRows g (path_of t.path.items) next.rows.items → next.path ≡ t.path → next.places ≡ t.places → AreOccurrences (length g.types) next.rows.items next.occurrences → next.search ≡ t.search → AreKnown g.types next.atoms → Stands g next
 stands_with g t next h k p q o s kn = record {
   places = subst (λ v. ArePlaces g (path_of v.items) next.places.items) (sym p) (subst (λ v. ArePlaces g (path_of t.path.items) v.items) (sym q) h.places);
@@ -279,7 +264,6 @@ stands_with g t next h k p q o s kn = record {
   known = kn;
 }
 
--- behind a look, once the rows that hold only there are gone
 pub stands_again : (g : Goal) (t next : Trail) (list : List Row) → Stands g t → take (length t.rows.items) list ≡ t.rows.items → next.path ≡ t.path → next.places ≡ t.places → next.rows.items ≡ take (length t.rows.items) list → next.occurrences ≡ t.occurrences → Remembers next.search.value (take (length t.rows.items) list) → AreKnown g.types next.atoms → StandsAt g (path_of t.path.items) next
 stands_again g t next list h f p q r o m kn = record {
   path = ap (λ v. path_of v.items) p;
@@ -295,7 +279,6 @@ stands_again g t next list h f p q r o m kn = record {
 pub looked : (g : Goal) (t next : Trail) (list held : List Row) (kept : ℕ) → Stands g t → kept ≡ length t.rows.items → take (length t.rows.items) list ≡ t.rows.items → held ≡ list → next.path ≡ t.path → next.places ≡ t.places → next.rows.items ≡ take kept list → next.occurrences ≡ t.occurrences → Remembers next.search.value (take kept held) → AreKnown g.types next.atoms → StandsAt g (path_of t.path.items) next
 looked g t next list held kept h e f d p q r o m kn = stands_again g t next list h f p q (r ∙ ap (λ k. take k list) e) o (subst (λ k. Remembers next.search.value (take k list)) e (subst (λ xs. Remembers next.search.value (take kept xs)) d m)) kn
 
--- the same where no search looked
 pub again : (g : Goal) (t next : Trail) (list : List Row) (kept : ℕ) → Stands g t → kept ≡ length t.rows.items → take (length t.rows.items) list ≡ t.rows.items → next.path ≡ t.path → next.places ≡ t.places → next.rows.items ≡ take kept list → next.occurrences ≡ t.occurrences → next.search ≡ t.search → AreKnown g.types next.atoms → StandsAt g (path_of t.path.items) next
 again g t next list kept h e f p q r o s kn = looked g t next list list kept h e f refl p q r o (subst (λ x. Remembers x.value (take kept list)) (sym s) (subst (Remembers t.search.value) (sym (ap (λ k. take k list) e ∙ f)) h.remembers)) kn
 
@@ -305,14 +288,12 @@ two_parts list a b kept e f = sym (take-append-drop kept list) ∙ ap (λ xs. xs
 pub starts_length : (rows list : List Row) (kept : ℕ) → take (length rows) list ≡ rows → kept ≡ length rows → kept ≤ length list
 starts_length rows list kept f e = let k = ap length f in let l = length-take (length rows) list in omega (arith, k, l, e)
 
--- what the search remembers of the rows of a path it remembers of these and more
+-- What the search records of the rows of a path, it records of these rows and more.
 pub remembers_list : (s : Search) (rows list : List Row) → Remembers s rows → take (length rows) list ≡ rows → Remembers s list
 remembers_list s rows list r f = subst (Remembers s) (sym (sym (take-append-drop (length rows) list) ∙ ap (λ xs. xs ++ drop (length rows) list) f)) (remembers_more s rows (drop (length rows) list) r)
 
--- the rows before a new one
 pub noted_first : (rows : List Row) (row : Row) (more : List Row) (count : ℕ) → more ≡ rows ++ (row ∷ []) → count ≡ length rows → take count more ≡ rows
 noted_first rows row more count e n = ap (λ xs. take count xs) e ∙ ap (λ k. take k (rows ++ (row ∷ []))) n ∙ take-append_seam rows (row ∷ [])
 
--- the same rows again
 pub taken_twice : (rows : List Row) (left : ℕ) → take left rows ≡ take left (take left rows)
 taken_twice rows left = sym (take-take left left rows (omega arith))

@@ -30,7 +30,7 @@ use Rattle.linear_rows.proofs.exported.GreedyChoices.{AreWhole, completed, chose
 use Rattle.region_split.proofs.GreedyOrder.{turned_occurs, chosen_all}
 use Rattle.region_split.proofs.GreedyStates.{number_below}
 
--- the choices before one that breaks
+-- The choices before one that breaks.
 record BeforeBreak (rows : List Row) (vars : List Ty) (xs : List ℕ) (cs ds : List (ℕ × Rational)) : Type 0 where
   before : List ℕ
   rest : List ℕ
@@ -53,7 +53,7 @@ number_typed Ty.UReal v n w u = (u refl).holds
 abbrev HasTypeOf : List Ty → ℕ × Rational → Type 0
 HasTypeOf types c = has (types_in types c.0) (Num c.1) ≡ true
 
--- each chosen value occurs, is whole where it has to be, and is that of a completion
+-- Each chosen value occurs, is an integer if its type says so, and is that of a completion.
 chosen_typed : (g : Goal) (ps : List Taken) (rows : List Row) (f : ℕ → Rational) (cs : List (ℕ × Rational)) → IsTypedGoal g → IsPath g ps → rows_of g ps true ≡ Some rows → All (MeetsAt f) rows → All (λ c. 0 < occurrences c.0 rows) cs → AreWhole g.types cs → All (λ c. f c.0 ≡ c.1) cs → All (HasTypeOf g.types) cs
 chosen_typed g ps rows f [] t p e m o w a = All-nil _
 chosen_typed g ps rows f (c ∷ cs) t p e m o w a =

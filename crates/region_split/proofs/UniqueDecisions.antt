@@ -1,4 +1,4 @@
--- A goal has one decision, but for the multipliers of its tree and the limits.
+-- A goal has one decision, except for the multipliers of its tree and the limits.
 use Rattle.std.proofs.Common.{◌≡◌, ℕ, List, [], ◌∷◌, ◌++◌, length, refl, sym, ap, ap₂, ◌∙◌, subst, arith, length-append, true}
 use Rattle.std.specs.Prelude.{Option, Some, None}
 use Rattle.std.specs.List.{All}
@@ -35,7 +35,7 @@ use Rattle.region_split.proofs.UniqueWalks.{cells_unique, trees_alike, alike_dep
 
 -- ---- Two places in a list
 
--- the same place, or one before the other
+-- Two places in a list: equal, or one before the other.
 data Places {A : Type 0} : List A → A → List A → List A → A → List A → Type 0 where
   same : (es : List A) (a : A) (bs : List A) → Places es a bs es a bs
   left : (es bs : List A) (a c : A) (cs : List A) → Places es a (bs ++ (c ∷ cs)) (es ++ (a ∷ bs)) c cs
@@ -52,7 +52,7 @@ places [] a bs (x ∷ cs) c ds e = let f : a ∷ bs ≡ x ∷ (cs ++ (c ∷ ds))
 places (x ∷ es) a bs [] c ds e = let f : x ∷ (es ++ (a ∷ bs)) ≡ c ∷ ds = e in let k : c ≡ x = cc in let m : es ++ (a ∷ bs) ≡ ds = cc in subst (λ z. Places (z ∷ es) a bs [] c ds) k (subst (λ z. Places (c ∷ es) a bs [] c z) m (Places.right [] es c a bs))
 places (x ∷ es) a bs (y ∷ cs) c ds e = let f : x ∷ (es ++ (a ∷ bs)) ≡ y ∷ (cs ++ (c ∷ ds)) = e in let k : x ≡ y = cc in let m : es ++ (a ∷ bs) ≡ cs ++ (c ∷ ds) = cc in subst (λ z. Places (x ∷ es) a bs (z ∷ cs) c ds) k (more_places x es a bs cs c ds (places es a bs cs c ds m))
 
--- ---- One point, one break
+-- ---- The point and the break are unique
 
 broken_parts : (b c : Broken) (ds es : List (ℕ × Rational)) → Greedy.broke b.var ds (ends_of b) ≡ Greedy.broke c.var es (ends_of c) → b.earlier.items ≡ values_of ds → c.earlier.items ≡ values_of es → IsSameBreak b c
 broken_parts b c ds es e h k =
@@ -73,7 +73,7 @@ same_break g ps b c p q =
     let e = same_rows g ps true q.rows p.rows q.are_rows p.are_rows in
     broken_parts b c p.broken.chosen q.broken.chosen (choices_unique p.rows g.types _ _ p.broken.solvable p.broken.choice (subst (λ rs. ChoosesFrom rs g.types (Greedy.broke c.var q.broken.chosen (ends_of c))) e q.broken.choice)) p.broken.earlier q.broken.earlier
 
--- What the ends of cells say of one of these.
+-- The ends of cells at one of them.
 data EndsAt (g : Goal) (c : List Taken) (es : List (List Taken)) : Type 0 where
   plain : IsPlainAt g c → EndsAt g c es
   ends : (cs : List (List Taken)) → AreEnds g 0 c cs → (All (Breaks g) es → All (Breaks g) cs) → EndsAt g c es
@@ -88,7 +88,6 @@ ends_at g (b ∷ before) c after _ (EndsOf.pieces _ cells cs es a h) = go (ends_
     go (EndsAt.plain p) = EndsAt.plain p
     go (EndsAt.ends ds d k) = EndsAt.ends ds d (λ m. k (all_second (Breaks g) cs es m))
 
--- No cell whose ends all break gives a point.
 broken_or_given : (g : Goal) (before : List (List Taken)) (c : List Taken) (after es : List (List Taken)) (p : List Val) → EndsOf g (before ++ (c ∷ after)) es → All (Breaks g) es → HasFirstPoint g 0 c p → ⊥
 broken_or_given g before c after es p h b a = go (ends_at g before c after es h)
   where
@@ -104,7 +103,6 @@ one_point g cells p q a b = go (places a.before a.cell a.after b.before b.cell b
     go (Places.left es bs c d ds) h k x y = absurd (broken_or_given g es c bs b.ends p k b.broken x)
     go (Places.right es bs d c ds) h k x y = absurd (broken_or_given g es d bs a.ends q h a.broken y)
 
--- the ends of cells are the same ones
 plain_ends : (g : Goal) (ps : List Taken) (es : List (List Taken)) → IsPlainAt g ps → AreEnds g 0 ps es → es ≡ []
 plain_ends g _ _ p (AreEnds.refuted n ps r) = refl
 plain_ends g _ _ p (AreEnds.whole n ps q f a) = absurd (f.not_plain p)
@@ -143,7 +141,6 @@ cell_count g _ _ c (AreCells.dropped ps d s) = absurd (kept_or_dropped g ps c.ke
 cell_count g _ _ c (AreCells.end ps e k h s) = refl
 cell_count g _ _ c (AreCells.question ps q cs ds h a b) = absurd (end_or_question g ps c.ends q c.at_end h.asks)
 
--- where one cell more is reached, not all are walked
 pub cells_or_walked : (g : Goal) (all : List (List Taken)) → HasCells g 4097 → IsWalked g all → ⊥
 cells_or_walked g all h w =
     let l = located g h.path h.before all h.are_before w.are_cells in

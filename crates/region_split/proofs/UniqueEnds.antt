@@ -1,4 +1,4 @@
--- The ends of a piece are the same ones, and so is the point that one of them gives.
+-- The ends of a piece are unique, and so is its first point.
 use Rattle.std.proofs.Common.{◌≡◌, ℕ, ℤ, List, [], ◌++◌, refl, sym, ap, ap₂, ◌∙◌, subst, arith, true, false}
 use Prim.Native.Nat.{suc}
 use Rattle.std.specs.Prelude.{Option, Some, None}
@@ -18,7 +18,7 @@ use Rattle.region_split.specs.PathPoints.{Breaks, IsPointOf, with_truths}
 use Rattle.region_split.specs.Pieces.{AreEnds, BreaksAbove, HasFirstPoint, IsSplitAt, first_half, second_half}
 use Rattle.region_split.specs.Walk.{IsFalse, IsRefutedCell}
 
--- ---- What the rows of a piece come to is one thing
+-- ---- The result of the rows of a piece is unique
 
 pub false_or_refuted : (g : Goal) (ps : List Taken) → IsFalse g ps → IsRefutedCell g ps → ⊥
 false_or_refuted g ps f r = r.unsolvable (subst IsSolvable (same_rows g ps true f.rows r.rows f.are_rows r.are_rows) f.solvable)
@@ -43,7 +43,7 @@ abbrev pub the_end : Option End → End
 the_end (Some e) = e
 the_end None = record { place = zeroʳ; inside = false }
 
--- A piece is split at one variable and one number.
+-- A piece is split at one variable and one bound.
 pub record SameSplit (x y : ℕ) (m k : ℤ) : Type 0 where
   pub var : x ≡ y
   pub bound : m ≡ k
@@ -62,7 +62,6 @@ one_split g ps x y m k a b =
 pub same_split : (g : Goal) (n : ℕ) (ps : List Taken) (x y : ℕ) (m k : ℤ) → IsSplitAt g n ps x m → IsSplitAt g n ps y k → SameSplit y x k m
 same_split g n ps x y m k s t = one_split g ps y x k m t.breaks s.breaks
 
--- What holds of the half of one split holds of that of the other.
 pub at_same : (P : List Taken → Type 0) (half : ℕ → ℤ → List Taken) (x y : ℕ) (m k : ℤ) → SameSplit y x k m → P (half y k) → P (half x m)
 at_same P half x y m k e h = subst (λ v. P (half v m)) e.var (subst (λ b. P (half y b)) e.bound h)
 
@@ -90,13 +89,11 @@ ends_unique g _ _ _ _ (AreEnds.halves n ps x m cs ds s a b) (AreEnds.halves _ _ 
 
 -- ---- The first point
 
--- It is a point of a piece that is false.
 pub point_false : (g : Goal) (n : ℕ) (ps : List Taken) (p : List Val) → HasFirstPoint g n ps p → IsFalse g ps
 point_false g _ _ _ (HasFirstPoint.whole n ps p f a) = f
 point_false g _ _ _ (HasFirstPoint.first n ps x m p s h) = s.false_piece
 point_false g _ _ _ (HasFirstPoint.second n ps x m es p s a b h) = s.false_piece
 
--- Where there is one, some end doesn't break.
 pub point_not_broken : (g : Goal) (n : ℕ) (ps : List Taken) (p : List Val) (es : List (List Taken)) → HasFirstPoint g n ps p → AreEnds g n ps es → All (Breaks g) es → ⊥
 point_not_broken g _ _ _ _ (HasFirstPoint.whole n ps p f a) (AreEnds.refuted _ _ r) h = false_or_refuted g ps f r
 point_not_broken g _ _ _ _ (HasFirstPoint.whole n ps p f a) (AreEnds.whole _ _ q k b) h = point_or_break g ps p a (All-head (Breaks g) ps [] h)

@@ -1,4 +1,4 @@
--- The walk is one: its cells, those before a front, and its tree but for the multipliers.
+-- Walks are unique: their cells, those before a front, and their tree except for the multipliers.
 use Prim.Native.Nat.{suc}
 use Rattle.std.proofs.Common.{◌≡◌, ℕ, ◌+◌, max, List, [], ◌++◌, refl, sym, ap, ap₂, ◌∙◌, subst, append_assoc, true, false, inl, inr}
 use Rattle.std.specs.Prelude.{Option, None, Some, is_some}
@@ -29,7 +29,7 @@ use Rattle.region_split.specs.DecisionLaws.{AreAlike, TreesAreAlike, DepthIsUniq
 use Rattle.region_split.proofs.PathAnswers.{same_rows}
 use Rattle.region_split.proofs.WalkMoves.{taken, snoc_first, snoc_last, snoc_not_empty}
 
--- ---- What stands at a path is one thing
+-- ---- The kind of a path is unique
 
 pub kept_or_dropped : (g : Goal) (ps : List Taken) → IsKeptPath g ps → IsDropped g ps → ⊥
 kept_or_dropped g ps k d = d.unsolvable (subst IsSolvable (same_rows g ps false k.rows d.rows k.are_rows d.are_rows) k.solvable)
@@ -40,7 +40,6 @@ end_or_question g ps e q h a = let k = sym h ∙ a.question in absurd (cc)
 one_question : (g : Goal) (ps : List Taken) (q r : Atom) → Asks g ps q → Asks g ps r → q ≡ r
 one_question g ps q r a b = let k = sym a.question ∙ b.question in cc
 
--- a goal that holds plainly has no denied goal among the rows
 plain_undenied : (g : Goal) (ps : List Taken) → IsPlainAt g ps → has_denied g ps ≡ false
 plain_undenied g ps p = ap (λ t. is_some (denial_at g.upper t)) p.at_end ∙ ap is_some p.plain
 
@@ -82,7 +81,6 @@ before_unique g ps cs ds a b = before_same g ps ps cs ds refl a b
 
 -- ---- The tree
 
--- A refuted piece isn't false.
 false_or_refuted_piece : (g : Goal) (ps : List Taken) (e : Ends) (ms : List (ℕ × ℕ)) → end_at g ps ≡ done e → IsFalse g ps → IsRefuted g ps ms → ⊥
 false_or_refuted_piece g ps e ms h f r = contradiction_unsolvable ms r.rows r.contradiction (subst IsSolvable (same_rows g ps true f.rows r.rows f.are_rows (subst (λ b. rows_of g ps b ≡ Some r.rows) (denied_there g ps e h f.not_plain) r.are_rows)) f.solvable)
 
@@ -125,7 +123,7 @@ alike_depth _ _ (AreAlike.whole x m t u v w a b) = ap₂ (λ m n. 1 + max m n) (
 pub depth_unique : DepthIsUnique
 depth_unique g ps t u a b = alike_depth t u (trees_alike g ps t u a b)
 
--- ---- Where there is a tree, the goal holds in each cell
+-- ---- If there is a tree, the goal holds in each cell
 
 piece_closed : (g : Goal) (n : ℕ) (ps : List Taken) (t : Tree) (e : Ends) → end_at g ps ≡ done e → (IsPlainAt g ps → ⊥) → IsPieceTree g n ps t → AreEnds g n ps []
 piece_closed g _ _ _ e h k (IsPieceTree.refuted n ps ms r) = AreEnds.refuted n ps (record { rows = r.rows; are_rows = subst (λ b. rows_of g ps b ≡ Some r.rows) (denied_there g ps e h k) r.are_rows; unsolvable = contradiction_unsolvable ms r.rows r.contradiction })
@@ -159,16 +157,16 @@ all_hold g _ _ _ (IsWalkTree.plain ps k p) (AreCells.dropped _ d s) = absurd (ke
 all_hold g _ _ _ (IsWalkTree.plain ps k p) (AreCells.end _ f l i s) = All-cons (HoldsAt g) ps [] (inl p) (All-nil (HoldsAt g))
 all_hold g _ _ _ (IsWalkTree.plain ps k p) (AreCells.question _ q cs ds i a b) = absurd (end_or_question g ps p.ends q p.at_end i.asks)
 
--- ---- Where a front stands among all cells
+-- ---- The place of a front among all cells
 
--- the cells of a front, with those before it and behind it
+-- The cells of a front, with those before and after it.
 pub record Located (g : Goal) (ps : List Taken) (before all : List (List Taken)) : Type 0 where
   pub here : List (List Taken)
   pub behind : List (List Taken)
   pub are_cells : AreCells g ps here
   pub whole : all ≡ before ++ (here ++ behind)
 
--- the cells of the two branches of a front that goes on
+-- The cells of the two branches of a front.
 record TwoBranches (g : Goal) (ps : List Taken) (q : Atom) (cells : List (List Taken)) : Type 0 where
   yes : List (List Taken)
   no : List (List Taken)

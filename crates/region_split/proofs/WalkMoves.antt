@@ -1,4 +1,4 @@
--- How a walk goes down to a question's first branch, and up from a finished one.
+-- The moves of a walk: down to the first branch of a comparison, and up from a finished one.
 use Rattle.std.proofs.Common.{◌≡◌, ◌+◌, ◌<◌, ◌≤◌, List, [], ◌∷◌, ◌++◌, refl, sym, ap, ◌∙◌, subst, arith, append_assoc, Bool, true, false}
 use Rattle.std.specs.Prelude.{Option, if◌then◌else◌}
 use Rattle.std.specs.List.{All}
@@ -39,14 +39,14 @@ pub snoc_not_empty : {A : Type 0} (ps : List A) (p : A) → [] ≡ ps ++ (p ∷ 
 snoc_not_empty [] p e = let k : [] ≡ p ∷ [] = e in absurd (cc)
 snoc_not_empty (x ∷ ps) p e = let k : [] ≡ x ∷ (ps ++ (p ∷ [])) = e in absurd (cc)
 
--- ---- Taking apart where the walk stands
+-- ---- Cases of the position of the walk
 
--- the walk stands in a first branch
+-- The walk is in a first branch.
 pub record InFirst (g : Goal) (ps : List Taken) (q : Atom) (cells : List (List Taken)) (trees : List (Option F.Tree)) : Type 0 where
   pub goes_on : GoesOn g ps q
   pub stands : HasBefore g ps cells trees
 
--- the walk stands in a second branch
+-- The walk is in a second branch.
 pub record InSecond (g : Goal) (ps : List Taken) (q : Atom) (cells : List (List Taken)) (trees : List (Option F.Tree)) : Type 0 where
   pub goes_on : GoesOn g ps q
   pub before : List (List Taken)
@@ -86,7 +86,6 @@ in_second g _ ps q _ _ e (HasBefore.second rs r cells here trees tree h b d) =
 
 -- ---- Going up
 
--- the cells of a question are those of its branches
 pub cells_joined : (g : Goal) (ps : List Taken) (q : Atom) (cells others : List (List Taken)) → GoesOn g ps q → AreCells g (onto ps q true) cells → AreCells g (onto ps q false) others → AreCells g ps (cells ++ others)
 cells_joined g ps q cells others h a b = AreCells.question ps q cells others h a b
 
@@ -101,7 +100,6 @@ all_second P (x ∷ xs) ys h = all_second P xs ys (All-tail P x (xs ++ ys) h)
 pub at_place : {A : Type 0} (P : A → Type 0) (xs : List A) (a : A) (ys : List A) → All P (xs ++ (a ∷ ys)) → P a
 at_place P xs a ys h = All-head P a ys (all_second P xs (a ∷ ys) h)
 
--- once the second branch is finished, so is the question above
 pub after_second : (g : Goal) (ps : List Taken) (q : Atom) (trees others : List (Option F.Tree)) (all : List (List Taken)) (left tree joined : Option F.Tree) → IsAfter g (onto ps q false) trees all tree → trees ≡ others ++ (left ∷ []) → (GoesOn g ps q → IsGrown g (onto ps q true) left → IsGrown g (onto ps q false) tree → IsGrown g ps joined) → IsAfter g ps others all joined
 after_second g ps q trees others all left tree joined a e j =
     let s = in_second g (onto ps q false) ps q a.before trees refl a.stands in
@@ -119,7 +117,6 @@ after_second g ps q trees others all left tree joined a e j =
       };
     }
 
--- where the second branch has no cells, the question above is finished with the first one
 pub after_first : (g : Goal) (ps : List Taken) (q : Atom) (trees : List (Option F.Tree)) (all : List (List Taken)) (tree right joined : Option F.Tree) → IsAfter g (onto ps q true) trees all tree → IsBranch g (onto ps q false) [] right → (GoesOn g ps q → IsGrown g (onto ps q true) tree → IsGrown g (onto ps q false) right → IsGrown g ps joined) → IsAfter g ps trees all joined
 after_first g ps q trees all tree right joined a b j =
     let s = in_first g (onto ps q true) ps q a.before trees refl a.stands in
@@ -134,7 +131,6 @@ after_first g ps q trees all tree right joined a b j =
       };
     }
 
--- once the first branch is finished, the walk stands in the second
 pub before_second : (g : Goal) (ps : List Taken) (q : Atom) (trees : List (Option F.Tree)) (all : List (List Taken)) (tree : Option F.Tree) → IsAfter g (onto ps q true) trees all tree → HasBefore g (onto ps q false) all (trees ++ (tree ∷ []))
 before_second g ps q trees all tree a =
     let s = in_first g (onto ps q true) ps q a.before trees refl a.stands in
@@ -145,13 +141,12 @@ before_start g _ _ _ e HasBefore.start = refl
 before_start g _ _ _ e (HasBefore.first ps q cells trees h b) = absurd (snoc_not_empty ps (taken q true) (sym e))
 before_start g _ _ _ e (HasBefore.second ps q cells here trees tree h b d) = absurd (snoc_not_empty ps (taken q false) (sym e))
 
--- at the start all is walked
 pub after_start : (g : Goal) (trees : List (Option F.Tree)) (all : List (List Taken)) (tree : Option F.Tree) → IsAfter g [] trees all tree → IsBranch g [] all tree
 after_start g trees all tree a =
     let e : a.here ≡ all = ap (λ cs. cs ++ a.here) (sym (before_start g [] a.before trees refl a.stands)) ∙ a.whole in
     subst (λ cs. IsBranch g [] cs tree) e a.branch
 
--- ---- What is left
+-- ---- The bound on what is left
 
 walk_none : {A : Type 0} (t : Query A) → walk t [] ≡ t
 walk_none (done a) = refl
@@ -200,7 +195,6 @@ rest_up g ps q h = rest_second (questions g) ps q h.asks.yes h.asks.no h.asks.qu
 pub rest_up_first : (g : Goal) (ps : List Taken) (q : Atom) → GoesOn g ps q → rest_of (questions g) ps ≤ rest_of (questions g) (onto ps q true)
 rest_up_first g ps q h = let b = rest_first (questions g) ps q h.asks.yes h.asks.no h.asks.question in omega (arith, b)
 
--- the second branch is what is right of the first
 pub left_second : (g : Goal) (ps : List Taken) (q : Atom) → GoesOn g ps q → left_of g (onto ps q false) ≡ rest_of (questions g) (onto ps q true)
 left_second g ps q h =
     let a = rest_second (questions g) ps q h.asks.yes h.asks.no h.asks.question in
@@ -208,7 +202,6 @@ left_second g ps q h =
     let c = ap size (walk_on (questions g) ps q h.asks.yes h.asks.no false h.asks.question) in
     omega (arith, a, b, c)
 
--- the first branch is less than the question
 pub left_first : (g : Goal) (ps : List Taken) (q : Atom) → GoesOn g ps q → left_of g (onto ps q true) < left_of g ps
 left_first g ps q h =
     let b = rest_first (questions g) ps q h.asks.yes h.asks.no h.asks.question in
@@ -219,7 +212,6 @@ left_first g ps q h =
 pub rest_below : (g : Goal) (ps : List Taken) → rest_of (questions g) ps < left_of g ps
 rest_below g ps = let h = size_positive (end_at g ps) in omega arith
 
--- and so is the second one
 pub left_of_second : (g : Goal) (ps : List Taken) (q : Atom) → GoesOn g ps q → left_of g (onto ps q false) < left_of g ps
 left_of_second g ps q h =
     let a = left_second g ps q h in

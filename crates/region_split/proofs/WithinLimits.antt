@@ -1,4 +1,5 @@
--- Eliminations that meet no limit: those that end in a contradiction by small sums, and those that leave no variable to choose.
+-- Eliminations that reach no limit: those that end in a contradiction by small sums, and those that
+-- leave no variable to choose.
 use Rattle.std.proofs.Common.{◌≡◌, ℕ, ◌+◌, ◌*◌, ◌<◌, ◌≤◌, ◌^◌, List, [], ◌∷◌, ◌++◌, length, take, refl, sym, ◌∙◌, subst, arith, lit<, Bool, true, false, cond, eqb, unsigned_abs, ◌⊎◌}
 use Rattle.std.specs.Prelude.{ℤ, pos, ◌+ℤ◌, ◌*ℤ◌, ◌<ℤ◌}
 use Rattle.std.proofs.lemmas.List.Elements.{All-nil, All-cons}
@@ -20,12 +21,12 @@ use Rattle.linear_elim.specs.Answers.{eliminated, IsTooGreat, IsTooGreatBy, IsWi
 
 -- ---- Partial sums
 
--- The absolute values of the coefficients, added up.
+-- The sum of the absolute values of the coefficients.
 abbrev pub sizes : List (ℕ × ℤ) → ℕ
 sizes [] = 0
 sizes (t ∷ ts) = unsigned_abs t.1 + sizes ts
 
--- The sizes of rows, each as often as its multiplier says.
+-- The sizes of rows, each times its multiplier.
 abbrev pub weighed : (Row → ℕ) → List (ℕ × ℕ) → List Row → ℕ
 weighed S [] rows = 0
 weighed S (m ∷ ms) rows = (m.1 * S (row_at rows m.0)) + weighed S ms rows
@@ -52,7 +53,7 @@ partial_small F S h zero (m ∷ ms) rows = omega (arith, ints)
 partial_small F S h (suc k) [] rows = omega (arith, ints)
 partial_small F S h (suc k) (m ∷ ms) rows = sum_small (pos m.1 *ℤ F (row_at rows m.0)) (combined F (take k ms) rows) (m.1 * S (row_at rows m.0)) (weighed S ms rows) (times_small m.1 (F (row_at rows m.0)) (S (row_at rows m.0)) (h (row_at rows m.0))) (partial_small F S h k ms rows)
 
--- No partial sum is too great where the sizes add up to less than the bound.
+-- No partial sum overflows if the sizes add up to less than the limit.
 pub wide_where : (ms : List (ℕ × ℕ)) (rows : List Row) → weighed (λ r. sizes r.terms) ms rows < 2 ^ 126 → weighed (λ r. unsigned_abs r.rest) ms rows < 2 ^ 126 → IsWide ms rows
 wide_where ms rows h k = record {
   coefficients = λ x. record { wide = λ n. below (partial_small (λ r. coefficient x r.terms) (λ r. sizes r.terms) (λ r. coefficient_small x r.terms) n ms rows) h };
@@ -67,11 +68,10 @@ wide_where ms rows h k = record {
 
 -- ---- Contradictions
 
--- The constant that the multipliers make of the rows is false.
+-- The multipliers combine the constants to a false one.
 abbrev pub IsFalseConstant : List (ℕ × ℕ) → List Row → Type 0
 IsFalseConstant ms rows = (pos 0 <ℤ combined (λ r. r.rest) ms rows) ⊎ ((combined (λ r. r.rest) ms rows ≡ pos 0) × (uses_strict ms rows ≡ true))
 
--- One row, and two rows, that are a contradiction.
 pub one_contradicts : (r : Row) → IsWide ((0, 1) ∷ []) (r ∷ []) → ((x : ℕ) → combined (λ r. coefficient x r.terms) ((0, 1) ∷ []) (r ∷ []) ≡ pos 0) → IsFalseConstant ((0, 1) ∷ []) (r ∷ []) → IsContradiction ((0, 1) ∷ []) (r ∷ [])
 one_contradicts r w n f = record {
   growing = (All-nil (λ m. 0 < m.0), tt);
@@ -98,12 +98,11 @@ two_contradict k r s p l w n f = record {
 
 -- ---- Limits
 
--- The plain elimination of the rows meets no limit.
+-- The plain elimination of the rows reaches no limit.
 pub record IsWithinLimits (rows : List Row) (vars : List Ty) : Type 0 where
   pub few : (steps count : ℕ) → eliminated rows vars ≡ plain.Outcome.too_many steps count → ⊥
   pub small : IsTooGreat rows vars → ⊥
 
--- Where it ends with a contradiction by small sums.
 pub refuted_within : (rows : List Row) (vars : List Ty) (c : Derived) → eliminated rows vars ≡ plain.Outcome.refuted c → IsWide (multipliers c) rows → IsWithinLimits rows vars
 refuted_within rows vars c e w = record { few = λ n k h. let i = sym e ∙ h in absurd (cc); small = small }
   where
@@ -112,7 +111,7 @@ refuted_within rows vars c e w = record { few = λ n k h. let i = sym e ∙ h in
     small (IsTooGreatBy.in_a_sum d h n) = let i = sym e ∙ h in let j : c ≡ d = cc in n (subst (λ x. IsWide (multipliers x) rows) j w)
     small (IsTooGreatBy.in_a_choice steps h n) = let i = sym e ∙ h in absurd (cc)
 
--- Where the rows stand without variables, so that nothing is chosen.
+-- No rows have variables, so nothing is chosen.
 pub standing_within : (rows : List Row) (vars : List Ty) → eliminated rows vars ≡ plain.Outcome.standing [] → IsWithinLimits rows vars
 standing_within rows vars e = record { few = λ n k h. let i = sym e ∙ h in absurd (cc); small = small }
   where
@@ -134,6 +133,5 @@ no_steps : elimination_by keeps [] [] ≡ plain.Outcome.standing []
 unfolding run start contradiction strongest
 no_steps = refl
 
--- Where there are no rows.
 pub no_rows_within : (vars : List Ty) → IsWithinLimits [] vars
 no_rows_within vars = standing_within [] vars (subst (λ xs. elimination_by keeps xs [] ≡ plain.Outcome.standing []) (sym (no_order (length vars))) no_steps)

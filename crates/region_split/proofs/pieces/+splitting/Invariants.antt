@@ -1,7 +1,7 @@
 use Rattle.std.proofs.Common.{◌+◌, ◌-◌, ◌*◌}
 use Rattle.region_split.proofs.pieces.+splitting.Given as goal
 
--- A piece after more splits has fewer before it.
+-- A piece after more splits has fewer splits left.
 abbrev pub decreases-piece_shown : goal.decreases-piece_shown
 decreases-piece_shown l = 4 * (9 - l.splits) + 2
 
