@@ -1,4 +1,4 @@
--- The encoding of one act from what is made for its parts.
+-- The encoding of one act, from the encodings of its parts.
 use Rattle.std.proofs.Common.{◌≡◌, ◌≤◌, ◌+◌, ℕ, Bool, sym, ap, subst, ◌∙◌, arith, List, [], ◌∷◌, ◌++◌, length, append_assoc, append-nil}
 use Rattle.std.proofs.lemmas.List.{length-append}
 use Rattle.std.specs.Prelude.{Vec}
@@ -18,7 +18,7 @@ use Rattle.loop_encodings.specs.Fresh.{fresh, fresh_of_act, fresh_of_arms}
 use Rattle.loop_encodings.specs.internal.Ready.{AreReady, AreReadyArms, IsReady, returned}
 use Rattle.loop_encodings.proofs.AppendedActs.{last_one}
 
--- What is to be shown of one act: what is made of it, and its variables.
+-- The statement on one act: its encoding is appended, and so are its fresh variables.
 abbrev pub AppendsAct : List TypedProcedure → TypedProcedure → List Variable → List Variable → Act → List A.Act → List A.Act → Type 0
 AppendsAct ps p start vars a xs ys = (acts_of ys ≡ join (acts_of xs) (encoded_act ps p (length start) a)) × (vars ≡ start ++ fresh_of_act ps a)
 

@@ -1,4 +1,4 @@
--- The body of a procedure of a file that meets the rules, and its encoding.
+-- The body of a procedure of a file that satisfies the static rules, and its encoding.
 use Rattle.std.proofs.Common.{◌≡◌, ◌≤◌, ◌<◌, ◌+◌, ◌^◌, ℕ, sym, ap, subst, ◌∙◌, arith, List, [], ◌++◌, length, get_or}
 use Rattle.heylo_formula.specs.Typing.{IsFormula, types_in}
 use Rattle.heyvl_acts.specs.Acts.{Acts, TypedProcedure, Variable, acts_in, procedure_at, type_list, variables}
@@ -17,7 +17,6 @@ use Rattle.loop_encodings.proofs.EncodedTypes.{encoding_fits, post_fits}
 use Rattle.loop_encodings.proofs.FromRules.{all_fine, is_there, procedure_is, ready_acts, rules_at}
 use Rattle.loop_encodings.proofs.OwnVariables.{own_variables}
 
--- What the encoding begins with: the procedure's variables.
 pub begun : (new old all own : List VarInfo) → plain_variables new ≡ plain_variables old ++ plain_variables all → old ≡ [] → all ≡ own → plain_variables new ≡ plain_variables own
 begun new old all own e f g = e ∙ (ap (λ l. plain_variables l ++ plain_variables all) f ∙ ap plain_variables g)
 

@@ -17,11 +17,9 @@ itself BoundGoal.pre = refl
 itself BoundGoal.post = refl
 itself (BoundGoal.invariant n) = refl
 
--- A name names one goal.
 pub same_goal : (g h : BoundGoal) → goal_id g ≡ goal_id h → g ≡ h
 same_goal g h e = itself g ∙ (ap named_so e ∙ sym (itself h))
 
--- The names of goals of invariants.
 pub invariant_ids : (ns : List ℕ) → map goal_id (map BoundGoal.invariant ns) ≡ map Invariant ns
 invariant_ids [] = refl
 invariant_ids (n ∷ ns) = ap (λ ids. Invariant n ∷ ids) (invariant_ids ns)

@@ -49,7 +49,7 @@ havocs_more up span types xs i x ty rest here lt is = ap (λ t. Acts.next (Act.a
 pub havocs_all : (up : Bool) (span : Span) (types : Types) (xs : List ℕ) (i : ℕ) (rest : Acts) → length xs ≤ i → havocs up span types (drop i xs) rest ≡ rest
 havocs_all up span types xs i rest le = ap (λ l. havocs up span types l rest) (drop_all i xs le)
 
--- ---- One more turn of a loop of the program
+-- ---- One more iteration of a loop of the program
 
 pub sets_step : (span : Span) (first : ℕ) (es : List T.Term) (i m : ℕ) (e t : T.Term) (start xs ys : List A.Act) → ((rest : Acts) → join (acts_of xs) (sets span m (terms_of (drop i es)) rest) ≡ join (acts_of start) (sets span first (terms_of es) rest)) → ys ≡ xs ++ A.Set m t span ∷ [] → term_of t ≡ term_of e → i < length es → e ≡ get_or es i e → (rest : Acts) → join (acts_of ys) (sets span (m + 1) (terms_of (drop (i + 1) es)) rest) ≡ join (acts_of start) (sets span first (terms_of es) rest)
 sets_step span first es i m e t start xs ys inv items same lt is rest =

@@ -1,4 +1,4 @@
--- The encoding has as many statements as are counted, and few fresh variables.
+-- The encoding has the counted number of statements, and few fresh variables.
 use Rattle.std.proofs.Common.{◌≡◌, ◌≤◌, ◌+◌, ◌*◌, ℕ, refl, sym, ap, ◌∙◌, arith, Bool, List, [], ◌∷◌, length}
 use Rattle.std.proofs.lemmas.List.{length-append, length-map}
 use Rattle.std.proofs.Math.Nat.{suc-mul}

@@ -1,4 +1,4 @@
--- The variables that an encoding gives any value: the procedure's own and the fresh ones.
+-- An encoding gives any value only to the procedure's variables and the fresh ones.
 use Rattle.std.proofs.Common.{◌≤◌, ◌<◌, ◌+◌, ℕ, arith, Bool, true, false, List, [], ◌∷◌, ◌++◌, length}
 use Rattle.std.specs.Prelude.{if◌then◌else◌}
 use Rattle.std.proofs.lemmas.List.{length-append, length-map}

@@ -1,4 +1,4 @@
--- What encodings are over: the procedure's own variables and the fresh ones.
+-- Encodings read only the procedure's variables and the fresh ones.
 use Rattle.std.proofs.Common.{◌≡◌, ◌≤◌, ◌<◌, ◌+◌, ◌==◌, ℕ, sym, ◌∙◌, arith, Bool, true, List, [], ◌∷◌, ◌++◌, length}
 use Rattle.std.proofs.lemmas.List.{length-append, length-map}
 use Prim.Native.Nat.{zero, suc}
@@ -27,12 +27,12 @@ use Rattle.heyvl_acts.proofs.exported.Each.{each_first, each_second}
 use Rattle.loop_encodings.proofs.FromRules.{IsFine, all_fine, each_procedure}
 use Rattle.loop_encodings.proofs.PlainOccurrences.{occurs_free, occurs_free_in}
 
--- Each number in the terms is below n.
+-- Each variable in the terms is below `n`.
 abbrev pub TermsAreOver : ℕ → List Term → Type 0
 TermsAreOver n [] = Unit {0}
 TermsAreOver n (e ∷ es) = TermIsOver n e × TermsAreOver n es
 
--- ---- What sees the first variables alone
+-- ---- Forms that see only the first variables
 
 module _ (n : ℕ) (v : Visible) (b : Bounded n v) where
   pub sees_over : (f : Form) → Sees v f → IsOver n f

@@ -28,7 +28,7 @@ use Rattle.loop_encodings.proofs.FromRules.{IsFine, all_fine}
 
 -- ---- Types at numbers
 
--- The variables from m on have the types of these.
+-- The variables from `m` on have the types of `vs`.
 abbrev pub TypesFrom : ℕ → List Variable → Types → Type 0
 TypesFrom m [] types = Unit {0}
 TypesFrom m (v ∷ vs) types = (types m ≡ v.ty) × TypesFrom (suc m) vs types
@@ -80,7 +80,7 @@ front_same (u ∷ us) vs (suc y) l = front_same us vs y (omega (arith, l))
 abbrev Front : ℕ → Types → Types → Type 0
 Front n types types' = (y : ℕ) → y < n → types y ≡ types' y
 
--- What is visible is one of the first variables.
+-- Each visible variable is below `n`.
 abbrev pub Bounded : ℕ → Visible → Type 0
 Bounded n v = (y : ℕ) → v y ≡ true → y < n
 
@@ -118,7 +118,7 @@ read_fits m Ty.UReal Ty.Int types e w = absurd (cc)
 read_fits m Ty.UReal Ty.UInt types e w = absurd (cc)
 read_fits m Ty.UReal Ty.UReal types e w = (refl, ap (λ t. fits (number_type t) (number_type Ty.UReal)) e)
 
--- ---- What is visible
+-- ---- Visible variables
 
 pub shown_bounded : (n x : ℕ) (v : Visible) → x < n → Bounded n v → Bounded n (shown x v)
 shown_bounded n x v l b y h = ⊎_elim (λ e. let q : x ≡ y = grind arith in subst (λ z. z < n) q l) (λ e. b y e) (or_cases (x == y) (v y) h)
@@ -243,7 +243,6 @@ module _ (ps : List TypedProcedure) (rules : (q : ℕ) → q < length ps → Mee
       ),
     )
 
--- The inputs and outputs are among the variables.
 pub interface_bounded : (p : TypedProcedure) → Bounded (length (variables p)) (interface p)
 interface_bounded p y h =
     let a = length-append p.inputs p.outputs in
@@ -255,11 +254,9 @@ interface_bounded p y h =
     below : (y n : ℕ) → leb (suc y) n ≡ true → y < n
     below y n h = grind (arith, leb_tells (suc y) n)
 
--- The encoding of a procedure of a file that meets the rules is well typed.
 pub encoding_fits : (ps : List TypedProcedure) (p : TypedProcedure) → ((q : ℕ) → q < length ps → MeetsRules ps (procedure_at ps q)) → MeetsRules ps p → ActsFit (types_in (type_list (all_variables ps p))) (encoding ps p)
 encoding_fits ps p rules meets = fits_acts ps rules p (types_in (type_list (all_variables ps p))) (front_same (variables p) (fresh ps (acts_in p.body))) (acts_in p.body) (interface p) (all_fine ps p meets) (interface_bounded p) meets.scopes (length (variables p)) (from_end (variables p) (fresh ps (acts_in p.body)))
 
--- The post is a formula over the variables of the encoding.
 pub post_fits : (ps : List TypedProcedure) (p : TypedProcedure) → MeetsRules ps p → IsFormula (types_in (type_list (all_variables ps p))) p.post
 post_fits ps p meets =
     ap is_unsigned (same_types p.post (types_in (type_list (all_variables ps p))) (types_in (type_list (p.inputs ++ p.outputs))) (λ y e. ap (λ l. types_in (type_list l) y) regrouped ∙ front_same (p.inputs ++ p.outputs) (p.locals ++ fresh ps (acts_in p.body)) y (meets.post_over y e)))

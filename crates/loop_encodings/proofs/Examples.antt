@@ -45,7 +45,7 @@ assert f = Act.check CheckKind.Assert f here
 abbrev assume : Form → Act
 assume f = Act.check CheckKind.Assume f here
 
--- Behind which nothing counts, upward and downward.
+-- Assumptions after which nothing counts, upward and downward.
 abbrev no_more : Act
 no_more = coassume (Form.embed (Cond.constant true))
 
@@ -76,7 +76,7 @@ geometric = record nobody {
   body = Some (listed (Act.set 1 (Term.number (Form.variable 0)) at ∷ Act.set 2 (Term.truth (Cond.constant true)) at ∷ Act.loop (record { number = 1; k = 1; inv = geometric_invariant; guard = Cond.flag 2; rank = None; scope = 0 ∷ 1 ∷ 2 ∷ []; span = here }) (listed (flip_stop ∷ stop_or_count ∷ [])) ∷ []));
 }
 
--- The local of the body isn't in the loop's scope, so it takes no value before the test.
+-- The local of the body is not in the loop's scope, so it takes no value before the test.
 geometric_loop : encoding [] geometric ≡ listed (
     Act.set 1 (Term.number (Form.variable 0)) at
     ∷ Act.set 2 (Term.truth (Cond.constant true)) at
@@ -102,7 +102,7 @@ hop_invariant = Form.select (x_is (ratio (pos 1) 1)) (whole half) (Form.select (
 abbrev pub hop_step : Act
 hop_step = Act.ifs (Arms.arm (x_is (ratio (pos 1) 1)) (listed (Act.set 0 (Term.number (whole (ratio (pos 2) 1))) at ∷ [])) Arms.no_arm) (listed (Act.draw 0 ((half, Term.number (whole (ratio (pos 0) 1))) ∷ (half, Term.number (whole (ratio (pos 3) 1))) ∷ []) at ∷ [])) at
 
--- With so many copies.
+-- The head of the hop with `k` copies.
 abbrev pub hop_head : ℕ → Head
 hop_head k = record { number = 1; k = k; inv = hop_invariant; guard = hop_guard; rank = None; scope = 0 ∷ []; span = here }
 
@@ -152,7 +152,8 @@ loop_in_a_loop = refl
 
 -- ---- Calls
 
--- Two inputs, of which the first is a flag, and two outputs. Its pre and post are over its own numbers.
+-- Two inputs, of which the first is a flag, and two outputs. The pre and the post are over their
+-- numbers.
 abbrev callee : Bool → TypedProcedure
 callee co = record nobody {
   co = co;
@@ -163,7 +164,7 @@ callee co = record nobody {
   post = Form.select (Cond.flag 3) (Form.variable 2) (Form.variable 1);
 }
 
--- 0 and 1 take its outputs.
+-- The variables 0 and 1 take its outputs.
 abbrev caller : Bool → TypedProcedure
 caller co = record nobody {
   co = co;
@@ -171,7 +172,7 @@ caller co = record nobody {
   body = Some (listed (Act.call (0 ∷ 1 ∷ []) 0 (Term.truth (Cond.flag 1) ∷ Term.number one ∷ []) here ∷ []));
 }
 
--- 2 and 3 stand for the inputs, 4 and 5 for the outputs.
+-- The variables 2 and 3 are the fresh inputs, 4 and 5 the fresh outputs.
 call_in_a_coproc : encoding (callee true ∷ []) (caller true) ≡ listed (
     Act.set 2 (Term.truth (Cond.flag 1)) here ∷ Act.set 3 (Term.number one) here
     ∷ coassert (Form.select (Cond.flag 2) (Form.variable 3) one)
@@ -203,11 +204,11 @@ draw_from x = Act.call (x ∷ []) 0 [] here
 abbrev given : ℕ → ℕ → List Act → List Act
 given x fresh rest = coassert one ∷ Act.any fresh true Ty.UInt here ∷ Act.validate true here ∷ coassume (Form.variable fresh) ∷ Act.set x (Term.number (Form.variable fresh)) here ∷ rest
 
--- Two calls have fresh variables of their own.
+-- Each of two calls has its own fresh variables.
 two_calls : encoding (source ∷ []) (procedure true (listed (draw_from 1 ∷ draw_from 1 ∷ []))) ≡ listed (given 1 2 (given 1 3 []))
 two_calls = refl
 
--- So have calls in the arms of an if, in its last block, and in both sides of a choice.
+-- So has each call in the arms of an if, in its last block, and in both sides of a choice.
 calls_in_blocks : encoding (source ∷ []) (procedure true (listed (Act.ifs (Arms.arm (Cond.flag 0) (listed (draw_from 1 ∷ [])) Arms.no_arm) (listed (draw_from 1 ∷ [])) at ∷ Act.pick true (listed (draw_from 1 ∷ [])) (listed (draw_from 1 ∷ [])) at ∷ [])))
     ≡ listed (Act.ifs (Arms.arm (Cond.flag 0) (listed (given 1 2 [])) Arms.no_arm) (listed (given 1 3 [])) at ∷ Act.pick true (listed (given 1 4 [])) (listed (given 1 5 [])) at ∷ [])
 calls_in_blocks = refl
@@ -219,7 +220,8 @@ call_in_copies : encoding (source ∷ []) (procedure true (listed (over 2 0 (lis
     ∷ given 1 3 [])
 call_in_copies = refl
 
--- ---- A modified variable of each kind: 0 is assigned, 1 is drawn, 2 is havocked, 3 is a call's target, and 4 is none
+-- ---- A modified variable of each kind: 0 is assigned, 1 is drawn, 2 takes any value, 3 is a
+-- call's target, and 4 is none
 
 modified_variables : encoding (source ∷ []) (record nobody {
   outputs = named 70 Ty.Bool ∷ named 71 Ty.UReal ∷ named 72 Ty.Int ∷ named 73 Ty.UInt ∷ named 74 Ty.Bool ∷ [];

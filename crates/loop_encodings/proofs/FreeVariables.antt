@@ -1,4 +1,4 @@
--- What holds of the free variables of the parts of a generated form holds of those of the form.
+-- A property of the free variables of the parts of a generated form holds of those of the form.
 use Rattle.std.proofs.Common.{◌≡◌, ◌⊎◌, inl, inr, refl, ℕ, Bool, true, false, cond, ◌==◌, ◌||◌}
 use Rattle.heyvl_places.specs.declared.checks.CheckKind.{CheckKind}
 use Rattle.heylo_formula.specs.Formula.{Form, Cond, Term}
@@ -8,7 +8,7 @@ use Rattle.heylo_formula.specs.declared.types.Ty.{Ty}
 use Rattle.vp_generator.specs.GeneratedForms.{check_form, pick_form, validate_form}
 use Rattle.loop_encodings.proofs.SubstitutedVariables.{left_free}
 
--- P holds of each free variable.
+-- `P` holds of each free variable.
 abbrev pub AllFree : (ℕ → Type 0) → Form → Type 0
 AllFree P f = (x : ℕ) → is_free x f ≡ true → P x
 
@@ -19,7 +19,6 @@ either : {A : Type 0} → (a b : Bool) → (a ≡ true → A) → (b ≡ true �
 either true b f g h = f refl
 either false b f g h = g h
 
--- a free variable under a binder is another one than the binder's
 under : (b free : Bool) → cond b false free ≡ true → (b ≡ false) × (free ≡ true)
 under true free h = absurd (cc)
 under false free h = (refl, h)

@@ -1,5 +1,5 @@
--- The fresh variables of a loop whose body calls, with two copies: they are read between the acts of its encoding, and are in
--- neither form of the main goal.
+-- The fresh variables of a loop whose body calls, with two copies: they are read between the acts
+-- of its encoding, and occur in neither form of the main goal.
 use Rattle.std.proofs.Common.{◌≡◌, refl, true, false, [], ◌∷◌}
 use Rattle.std.specs.Prelude.{Some, None}
 use Rattle.heyvl_num.specs.Value.{oneᵛ}
@@ -13,14 +13,15 @@ use Rattle.vp_generator.specs.GeneratedForms.{vp}
 use Rattle.loop_encodings.specs.FreshLaws.{generated_form, main_goal}
 use Rattle.loop_encodings.proofs.Examples.{here, named}
 
--- 0 is its input and 1 its output.
+-- The variable 0 is its input and 1 its output.
 abbrev step : TypedProcedure
 step = record nobody { inputs = named 10 Ty.UInt ∷ []; outputs = named 11 Ty.UInt ∷ []; pre = Form.variable 0; post = Form.sum (Form.variable 0) (Form.variable 1) }
 
 abbrev one_more : Form → Form
 one_more f = Form.sum f (Form.number oneᵛ)
 
--- 0 is a flag and 1 a number: while the flag holds, the number becomes what step gives for one more.
+-- The variable 0 is a flag and 1 a number: while the flag holds, the number becomes the output of
+-- step for the number plus 1.
 abbrev stepping : TypedProcedure
 stepping = record nobody {
   outputs = named 20 Ty.Bool ∷ named 21 Ty.UInt ∷ [];
@@ -29,7 +30,8 @@ stepping = record nobody {
   body = Some (Acts.next (Act.loop (record { number = 1; k = 2; inv = Form.variable 1; guard = Cond.flag 0; rank = None; scope = 0 ∷ 1 ∷ []; span = here }) (Acts.next (Act.call (1 ∷ []) 0 (Term.number (one_more (Form.variable 1)) ∷ []) here) Acts.done)) Acts.done);
 }
 
--- 2 stands for the input of step and 3 for its output, and the binders take the numbers from 4 on.
+-- The variable 2 is the fresh input of step and 3 the fresh output; the binders have the numbers
+-- from 4 on.
 own_of_stepping : (main_goal (step ∷ []) stepping []).own ≡ 4
 own_of_stepping = refl
 
@@ -37,7 +39,8 @@ types_of_stepping : (main_goal (step ∷ []) stepping []).types ≡ Ty.Bool ∷ 
 unfolding Replaced.subst Replaced.fresh Replaced.least_unused
 types_of_stepping = refl
 
--- In the generated form the outputs of both copies' calls are bound, the inner one under a number of its own.
+-- In the generated form the outputs of both copies' calls are bound, the inner one under its own
+-- number.
 abbrev last_copy : Form
 last_copy = Form.co_validate (Form.co_imply (Form.sum (one_more (Form.variable 3)) (Form.variable 1048576)) (Form.max (Form.variable 1048576) (Form.co_imply (Form.embed (Cond.constant true)) (Form.variable 1048576))))
 
@@ -52,7 +55,7 @@ fresh_not_free : (is_free 2 (generated_form (step ∷ []) stepping) ≡ false) �
 unfolding Replaced.subst Replaced.fresh Replaced.least_unused
 fresh_not_free = (refl, refl)
 
--- As a binder's number 3 occurs there, in the goal nowhere.
+-- The number 3 occurs there as a binder's, and nowhere in the goal.
 bound_in_the_form : occurs 3 (generated_form (step ∷ []) stepping) ≡ true
 unfolding Replaced.subst Replaced.fresh Replaced.least_unused
 bound_in_the_form = refl
@@ -61,7 +64,8 @@ fresh_lacking : (occurs 2 (main_goal (step ∷ []) stepping []).found ≡ false)
 unfolding Replaced.subst Replaced.fresh Replaced.least_unused
 fresh_lacking = (refl, refl)
 
--- ---- Where fresh variables are read: a call whose input isn't given, and one whose output isn't any value
+-- ---- Encodings that read fresh variables: a call whose input is not assigned, and one whose
+-- output does not take any value
 
 abbrev given_back : Acts
 given_back = Acts.next (Act.check CheckKind.CoAssume (Form.sum (Form.variable 2) (Form.variable 3)) here) (Acts.next (Act.set 1 (Term.number (Form.variable 3)) here) Acts.done)

@@ -1,4 +1,4 @@
--- What the encoding asks for follows from the static rules.
+-- The requirements of the encoding follow from the static rules.
 use Rattle.std.proofs.Common.{◌≡◌, ◌≤◌, ◌<◌, ◌+◌, ℕ, refl, sym, ap, subst, ◌∙◌, arith, List, [], ◌∷◌, ◌++◌, length, get_or, map}
 use Rattle.std.proofs.lemmas.List.{length-append, length-map}
 use Prim.Native.Nat.{zero, suc}
@@ -16,7 +16,7 @@ use Rattle.heyvl_acts.proofs.exported.Each.{each_first, each_second, each_two, e
 use Rattle.loop_encodings.specs.internal.Ready.{AreReady, AreReadyArms, IsCall, IsCallee, IsReady}
 use Rattle.loop_encodings.proofs.OwnVariables.{inputs_length, outputs_length}
 
--- What the rules say of an act.
+-- The static rules on an act.
 abbrev pub IsFine : List TypedProcedure → TypedProcedure → Act → Type 0
 IsFine ps p a = (HasOwnTargets p a × IsTypedAct ps p a) × (LoopsMeet p a × FollowsDirection ps p a)
 
@@ -97,7 +97,6 @@ each_procedure ps rest q h lt = each_at (MeetsRules ps) rest q h lt
 pub rules_at : (typed : Typed) (q : ℕ) → MeetsAllRules typed → q < length (procedures_of typed) → MeetsRules (procedures_of typed) (procedure_at (procedures_of typed) q)
 rules_at typed q h lt = each_procedure (procedures_of typed) (procedures_of typed) q h.each lt
 
--- A procedure that is called is fit to be.
 pub callee_at : (typed : Typed) (xs : List ℕ) (q : ℕ) (es : List Term) (x : TProc) → MeetsAllRules typed → IsCall (procedures_of typed) xs q es → q < length typed.procs.items → x ≡ get_or typed.procs.items q x → IsCallee x
 callee_at typed xs q es x rules call lt is =
     let counted = counted_at typed.procs.items q x rules.counted lt is in

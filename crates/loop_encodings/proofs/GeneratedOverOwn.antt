@@ -1,4 +1,5 @@
--- The form that is generated from an encoding is over the procedure's own variables, where what follows is.
+-- The form that is generated from an encoding has free only variables of the procedure, if the form
+-- that follows does.
 use Rattle.std.proofs.Common.{◌≡◌, ◌≤◌, ◌<◌, ◌+◌, ◌⊎◌, ◌==◌, inl, inr, ℕ, refl, sym, ap, subst, arith, Bool, true, false, List, [], ◌∷◌, ◌++◌, length}
 use Rattle.std.proofs.lemmas.List.{length-append, length-map}
 use Prim.Native.Nat.{zero, suc}
@@ -33,11 +34,11 @@ pub join_form : (a b : Acts) (k : Form) → vp (join a b) k ≡ vp a (vp b k)
 join_form Acts.done b k = refl
 join_form (Acts.next a rest) b k = ap (vp_act a) (join_form rest b k)
 
--- The acts bring no variable but the first n into the form that follows them.
+-- The acts add no variable but the first `n` to the form that follows them.
 abbrev Keeps : ℕ → Acts → Type 0
 Keeps n acts = (k : Form) → IsOver n k → IsOver n (vp acts k)
 
--- One of the first n, or from one number on and before another.
+-- The variable is one of the first `n`, or lies between two numbers.
 abbrev Placed : ℕ → ℕ → ℕ → ℕ → Type 0
 Placed n from to x = (x < n) ⊎ ((from ≤ x) × (x < to))
 
@@ -88,7 +89,7 @@ module _ (n : ℕ) where
     keeps_loop : (types : Types) (xs : List ℕ) → Keeps n (encoded_loop up types h xs b)
     keeps_loop types xs k o = check_free (λ y. y < n) (must up) h.inv _ inv (keeps_havocs up h.span types xs (tested up h b) keeps_test k o)
 
-  -- ---- Calls: what is read of the fresh variables behind each part, from the last one to the first
+  -- ---- Calls: the fresh variables that are read after each part, from the last part to the first
 
   only : (m y : ℕ) → (y == m) ≡ true → y ≡ m
   only m y e = grind arith
@@ -99,7 +100,6 @@ module _ (n : ℕ) where
   at_read m Ty.UInt y e = only m y e
   at_read m Ty.UReal y e = only m y e
 
-  -- all but the first of those from m on
   less : (from m x : ℕ) → (x == m) ≡ false → Placed n from (suc m) x → Placed n from m x
   less from m x e (inl p) = inl p
   less from m x e (inr p) = inr (p.0, before (p.1))
@@ -134,7 +134,6 @@ module _ (n : ℕ) where
   before_sets span [] from m to r k t l h = λ x e. up_to from to m x (omega (arith, l)) (h x e)
   before_sets span (e ∷ es) from m to r k t l h = subst_free (Placed n from m) m e (vp (sets span (suc m) es r) k) (λ x q j. less from m x q (before_sets span es from (suc m) to r k t.1 (omega (arith, l)) h x j)) (λ x q. inl (t.0 x q))
 
-  -- a form of the called procedure, over the fresh variables
   of_callee : (m i to : ℕ) (f : Form) → m + i ≤ to → IsOver i f → AllFree (Placed n m to) (shifted m f)
   of_callee m i to f l o x e = let q = shifted_over m i f o x e in inr (above_shift m x f e, omega (arith, q, l))
 
@@ -190,7 +189,6 @@ module _ (ps : List TypedProcedure) (rules : (q : ℕ) → q < length ps → Mee
         (keeps_acts c v (each_first (IsFine ps p) (in_order c) (inside_arms more) f) b o.1.0 m k h)
         (keeps_arms more v g.1 (each_second (IsFine ps p) (in_order c) (inside_arms more) f) b o.1.1 (m + length (fresh ps c)) k e h j)
 
--- The generated form is over the procedure's own variables.
 pub generated_over : (ps : List TypedProcedure) (p : TypedProcedure) → ((q : ℕ) → q < length ps → MeetsRules ps (procedure_at ps q)) → MeetsRules ps p → IsOver (length (variables p)) (generated_form ps p)
 generated_over ps p rules meets =
     let a = length-append p.inputs p.outputs in

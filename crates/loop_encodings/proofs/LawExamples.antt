@@ -1,4 +1,5 @@
--- What the laws of encodings ask, at a procedure that calls another one: both satisfy the static rules, and the call has fresh variables.
+-- The requirements of the laws of encodings, at a procedure that calls another one: both satisfy
+-- the static rules, and the call has fresh variables.
 use Rattle.std.proofs.Common.{◌<◌, refl, List, [], ◌∷◌, length, arith}
 use Rattle.std.specs.Prelude.{Some}
 use Rattle.heyvl_num.specs.Rational.{ratio, zeroʳ, oneʳ, leqʳ}
@@ -12,11 +13,11 @@ use Rattle.heyvl_acts.specs.WellTypedActs.{IsHeld}
 use Rattle.loop_encodings.specs.FreshLaws.{IsFreshNumber}
 use Rattle.loop_encodings.proofs.Examples.{here, named}
 
--- 0 is its input and 1 its output.
+-- The variable 0 is its input and 1 its output.
 abbrev step : TypedProcedure
 step = record nobody { inputs = named 10 Ty.UInt ∷ []; outputs = named 11 Ty.UInt ∷ []; pre = Form.variable 0; post = Form.sum (Form.variable 0) (Form.variable 1) }
 
--- Its output is what step gives for 1.
+-- Its output is that of step for 1.
 abbrev calling : TypedProcedure
 calling = record nobody { outputs = named 20 Ty.UInt ∷ []; pre = Form.number oneᵛ; post = Form.variable 0; body = Some (Acts.next (Act.call (0 ∷ []) 0 (Term.number (Form.number oneᵛ) ∷ []) here) Acts.done) }
 
@@ -73,11 +74,12 @@ calling_meets = record {
   numbered = refl;
 }
 
--- The file satisfies the rules and has a second procedure, as `EncodingIsOver`, `EncodingBindsItsVariables` and
--- `MainFormsAreOverOwnVariables` ask.
+-- The file satisfies the static rules and has a second procedure, as `EncodingIsOver`,
+-- `EncodingBindsItsVariables` and `MainFormsAreOverOwnVariables` require.
 file_meets_the_rules : Each (MeetsRules file) file × (1 < length file)
 file_meets_the_rules = ((step_meets, (calling_meets, tt)), omega arith)
 
--- 1 is the number of the input of step, as `FreshVariablesAreNotFree` and `MainGoalsLackFreshVariables` ask.
+-- The number of the fresh input of step is 1, as `FreshVariablesAreNotFree` and
+-- `MainGoalsLackFreshVariables` require.
 input_is_fresh : IsFreshNumber file calling 1
 input_is_fresh = record { after_own = omega arith; below_all = omega arith }

@@ -33,11 +33,9 @@ two_parts (suc a) b (x ∷ l) = ap (λ n. take n (x ∷ l)) (more a b) ∙ ap (�
     more : (a b : ℕ) → suc a + b ≡ suc (a + b)
     more a b = omega arith
 
--- All variables of a procedure.
 pub own_variables : (p : TProc) → variables (procedure_of p) ≡ plain_variables p.vars.items
 own_variables p = three_parts p.inputs p.outputs (map variable_of p.vars.items)
 
--- The type of a variable.
 pub own_type : (p : TProc) (x : ℕ) (v : VarInfo) → x < length p.vars.items → v ≡ get_or p.vars.items x v → types_of (procedure_of p) x ≡ v.ty
 own_type p x v lt is = ap (λ l. types_in (type_list l) x) (own_variables p) ∙ at p.vars.items x v lt is
   where
@@ -55,13 +53,11 @@ output_part a b l m e = ap (λ x. plain_variables (take (a + b - a) (drop a x)))
     less : (a b : ℕ) → a + b - a ≡ b
     less a b = omega arith
 
--- Numbers that grow are below their bound.
 pub grow_below : (from below : ℕ) (xs : List ℕ) (i x : ℕ) → GrowBelow from below xs → i < length xs → x ≡ get_or xs i 0 → x < below
 grow_below from below [] i x g lt is = absurd (omega (arith, lt))
 grow_below from below (y ∷ xs) zero x g lt is = let b = g.0.1 in omega (arith, b, is)
 grow_below from below (y ∷ xs) (suc i) x g lt is = grow_below (suc y) below xs i x g.1 (omega (arith, lt)) is
 
--- As many inputs as the number says.
 pub inputs_length : (p : TProc) → p.inputs + p.outputs ≤ length p.vars.items → length (procedure_of p).inputs ≡ p.inputs
 inputs_length p h = length-take-le p.inputs (plain_variables p.vars.items) (let e = length-map p.vars.items variable_of in omega (arith, e, h))
 

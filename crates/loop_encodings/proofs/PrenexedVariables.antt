@@ -1,4 +1,4 @@
--- A number below those of the binders occurs in the prenexed form only where a free variable is numbered as it.
+-- A number below those of the binders occurs in the prenexed form only if a free variable has it.
 use Rattle.std.proofs.Common.{◌≡◌, ◌<◌, ◌+◌, ℕ, refl, sym, subst, arith, Bool, true, false, cond, ◌==◌, ◌||◌, length}
 use Prim.Native.Nat.{suc}
 use Rattle.heylo_formula.specs.Formula.{Form, Cond}
@@ -14,7 +14,6 @@ or_right : (a b : Bool) → b ≡ true → (a || b) ≡ true
 or_right true b h = refl
 or_right false b h = h
 
--- under a binder
 inner : (x y z n : ℕ) (m : Numbering) (free : Bool) → x < n → (cond (y == z) false free ≡ true → (x == m y) ≡ false) → free ≡ true → (x == renumbered z n m y) ≡ false
 inner x y z n m free l h i = go (z == y) refl
   where
@@ -62,7 +61,6 @@ mutual
   unbound_lacks_in (Cond.equal a b) m n x l h = neither (unbound_lacks a m n x l (λ y i. h y (or_left (is_free y a) (is_free y b) i))) (unbound_lacks b m (n + length (binders a)) x (omega (arith, l)) (λ y i. h y (or_right (is_free y a) (is_free y b) i)))
   unbound_lacks_in (Cond.ite c g k) m n x l h = neither (unbound_lacks_in c m n x l (λ y i. h y (or_left (is_free_in y c) (is_free_in y g || is_free_in y k) i))) (neither (unbound_lacks_in g m (n + length (binders_in c)) x (omega (arith, l)) (λ y i. h y (or_right (is_free_in y c) (is_free_in y g || is_free_in y k) (or_left (is_free_in y g) (is_free_in y k) i)))) (unbound_lacks_in k m (n + length (binders_in c) + length (binders_in g)) x (omega (arith, l)) (λ y i. h y (or_right (is_free_in y c) (is_free_in y g || is_free_in y k) (or_right (is_free_in y g) (is_free_in y k) i)))))
 
--- a number below n that isn't free in the form doesn't occur in the prenexed one
 pub prenexed_lacks : (n x : ℕ) (f : Form) → x < n → is_free x f ≡ false → occurs x (prenexed n f) ≡ false
 prenexed_lacks n x f l h = unbound_lacks f (λ y. y) n x l (λ y i. other y i (x == y) refl)
   where

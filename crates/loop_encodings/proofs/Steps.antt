@@ -1,4 +1,4 @@
--- How far the encoding of acts, and of the arms of an If, has come.
+-- Intermediate states of the encoding of acts, and of the arms of an if.
 use Rattle.std.proofs.Common.{◌≡◌, ◌≤◌, ◌<◌, ◌+◌, ℕ, refl, sym, ap, subst, ◌∙◌, arith, List, [], ◌∷◌, ◌++◌, length, get_or, drop, append_assoc, append-nil}
 use Rattle.std.proofs.lemmas.List.{length-append, drop_all}
 use Rattle.std.specs.Prelude.{Vec}
@@ -14,7 +14,7 @@ use Rattle.loop_encodings.specs.Fresh.{fresh, fresh_of_act, fresh_of_arms}
 use Rattle.loop_encodings.specs.internal.Ready.{AreReady, IsReady, AreReadyArms}
 use Rattle.loop_encodings.proofs.AppendedActs.{join_nothing, join_twice, left_over}
 
--- Arms, one list after the other.
+-- The arms of one list, then those of another.
 abbrev pub then_arms : Arms → Arms → Arms
 then_arms Arms.no_arm rest = rest
 then_arms (Arms.arm g b more) rest = Arms.arm g b (then_arms more rest)
@@ -31,7 +31,8 @@ arms_of-append : (xs : List (C.Cond × Vec A.Act Global)) (x : C.Cond × Vec A.A
 arms_of-append [] x = refl
 arms_of-append (y ∷ xs) x = ap (λ r. Arms.arm (cond_of y.0) (acts_of y.1.items) r) (arms_of-append xs x)
 
--- From the variables start on, what is made of the acts and what is left give the encoding of all.
+-- The encoding so far, from the variables `start` on, and the encodings of the acts that are left
+-- make the encoding of all acts.
 pub record Acting (ps : List TypedProcedure) (p : TypedProcedure) (start now : List Variable) (all made left : Acts) : Type 0 where
   pub acts : join made (encoded ps p (length now) left) ≡ encoded ps p (length start) all
   pub vars : now ++ fresh ps left ≡ start ++ fresh ps all
@@ -76,7 +77,7 @@ module _ (ps : List TypedProcedure) (p : TypedProcedure) (start vars : List Vari
   pub arming_end : (all made : Arms) → Arming ps p start vars all made Arms.no_arm → (made ≡ encoded_arms ps p (length start) all) × (vars ≡ start ++ fresh_of_arms ps all)
   arming_end all made h = (sym (then_none made) ∙ h.arms, sym (append-nil vars) ∙ h.vars)
 
--- ---- The same for the program's lists
+-- ---- The lists of the program
 
 abbrev pub Turns : List TypedProcedure → TypedProcedure → List Variable → List Variable → List A.Act → List A.Act → ℕ → Type 0
 Turns ps p start vars all made i = Acting ps p start vars (acts_of all) (acts_of made) (acts_of (drop i all))

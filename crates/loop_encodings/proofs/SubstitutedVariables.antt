@@ -1,4 +1,5 @@
--- What a substitution leaves free: the variable that is replaced is free in the result only where it occurs in the term.
+-- The free variables after a substitution. The variable that is replaced is free in the result only
+-- if it occurs in the term.
 use Rattle.std.proofs.Common.{◌≡◌, ℕ, ◌<◌, ◌⊎◌, inl, inr, refl, sym, ap, subst, arith, Bool, true, false, cond, ◌==◌, ◌&&◌}
 use Prim.Native.Nat.{zero, suc}
 use Rattle.heylo_formula.specs.Formula.{Form, Cond, Term}
@@ -33,7 +34,6 @@ gone_flag x w t h = go (x == w) refl
     go true e = gone_cond x t h
     go false e = e
 
--- under a binder that isn't free stays so
 bound : (c b : Bool) → b ≡ false → cond c false b ≡ false
 bound true b h = refl
 bound false b h = h
@@ -46,7 +46,7 @@ gone_bind n x w up name ty a t l ih = go (x == w) refl (occurs_in_term w t && is
     go false e true = bound (x == fresh a t) _ (ih (renamed w (fresh a t) a) (subst (λ k. k < n) (sym (same_nodes w (fresh a t) a)) l))
     go false e false = bound (x == w) _ (ih a l)
 
--- n is above the number of nodes
+-- By induction on `n`, which is above the number of nodes.
 mutual
   gone_within : (n x : ℕ) (t : Term) → occurs_in_term x t ≡ false → (f : Form) → nodes f < n → is_free x (subst_within n x t f) ≡ false
   gone_within zero x t h f l = absurd (omega (arith, l))
@@ -81,12 +81,10 @@ mutual
   gone_within_in (suc n) x t h (Cond.equal a b) l = neither (gone_within n x t h a (omega (arith, l))) (gone_within n x t h b (omega (arith, l)))
   gone_within_in (suc n) x t h (Cond.ite c g k) l = neither (gone_within_in n x t h c (omega (arith, l))) (neither (gone_within_in n x t h g (omega (arith, l))) (gone_within_in n x t h k (omega (arith, l))))
 
--- the variable that is replaced isn't free in the result, unless it occurs in the term
 pub gone : (x : ℕ) (t : Term) (f : Form) → occurs_in_term x t ≡ false → is_free x (Replaced.subst x t f) ≡ false
 unfolding Replaced.subst
 gone x t f h = gone_within (suc (nodes f)) x t h f (omega arith)
 
--- a free variable of the result is another one that is free in the form, or occurs in the term
 pub left_free : (x y : ℕ) (t : Term) (f : Form) → is_free y (Replaced.subst x t f) ≡ true → ((is_free y f ≡ true) × ((y == x) ≡ false)) ⊎ (occurs_in_term y t ≡ true)
 left_free x y t f h = go (occurs_in_term y t) refl (free_subst x y t f h)
   where

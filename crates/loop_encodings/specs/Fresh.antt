@@ -1,11 +1,10 @@
--- The fresh variables of a body's calls: for each call, in the order of the text, those of the called procedure's inputs and
--- then those of its outputs. Each has the name and the type of what it stands for.
--- This project's own.
+-- The fresh variables of a body's calls: for each call, in the order of the text, the inputs and
+-- then the outputs of the called procedure, with their names and types. This project's own.
 use Rattle.std.specs.Prelude.{List, [], ◌++◌}
 use Rattle.heyvl_acts.specs.Acts.{Act, Acts, Arms, Variable, TypedProcedure, procedure_at}
 
 abbrev mutual
-  -- The fresh variables of an act, those of what is inside it too.
+  -- The fresh variables of an act and of the acts in it.
   pub fresh_of_act : List TypedProcedure → Act → List Variable
   fresh_of_act ps (Act.set x t span) = []
   fresh_of_act ps (Act.draw x qs span) = []
@@ -17,7 +16,8 @@ abbrev mutual
   fresh_of_act ps (Act.check kind f span) = []
   fresh_of_act ps (Act.validate co span) = []
   fresh_of_act ps (Act.loop h b) = fresh ps b
-  fresh_of_act ps (Act.call xs q es span) = (procedure_at ps q).inputs ++ (procedure_at ps q).outputs
+  fresh_of_act ps (Act.call xs q es span) =
+      (procedure_at ps q).inputs ++ (procedure_at ps q).outputs
 
   -- The fresh variables of acts, in the order of the text.
   pub fresh : List TypedProcedure → Acts → List Variable

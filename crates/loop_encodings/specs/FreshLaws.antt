@@ -1,7 +1,7 @@
--- The fresh variables of an encoding in the procedure's main goal. The encoding of a call gives each of them a value before it
--- reads it, so that the generated form speaks of the procedure's own variables alone: in a main goal the fresh variables are
--- counted among the goal's own, and occur in neither form.
--- This project's own.
+-- Fresh variables in a procedure's main goal. The encoding of a call assigns each fresh variable
+-- before it reads it. So the generated form has only the procedure's variables free: in a main goal
+-- the fresh variables count as variables of the goal, and occur in neither form. This project's
+-- own.
 use Rattle.std.specs.Prelude.{◌≡◌, ◌≤◌, ◌<◌, ◌+◌, ℕ, false, List, length}
 use Rattle.heylo_formula.specs.Formula.{Form}
 use Rattle.heylo_formula.specs.Goals.{Goal}
@@ -13,32 +13,46 @@ use Rattle.vp_generator.specs.PrenexedGoals.{prenexed_goal}
 use Rattle.loop_encodings.specs.Encoding.{all_variables, encoding}
 use Rattle.loop_encodings.specs.Fresh.{fresh}
 
--- The form that is generated from a procedure's encoding, over its post.
+-- The form that is generated from a procedure's encoding, before its post.
 abbrev pub generated_form : List TypedProcedure → TypedProcedure → Form
 generated_form ps p = vp (encoding ps p) p.post
 
--- The main goal of a procedure, with these names for its variables: the pre and the generated form, with a variable of its own for
--- each binder of the latter.
+-- `main_goal ps p names`: the main goal of the procedure `p`, whose variables have the names
+-- `names`. The pre is the stated bound, the prenexed generated form the computed form.
 abbrev pub main_goal : List TypedProcedure → TypedProcedure → List (List ℕ) → Goal
-main_goal ps p names = prenexed_goal p.co (type_list (all_variables ps p)) names p.pre (generated_form ps p)
+main_goal ps p names = prenexed_goal p.co (type_list (all_variables ps p)) names p.pre
+    (generated_form ps p)
 
--- The number of a fresh variable: it comes after the procedure's own ones.
+-- `x` is the number of a fresh variable: it follows those of the procedure's variables.
 pub record IsFreshNumber (ps : List TypedProcedure) (p : TypedProcedure) (x : ℕ) : Type 0 where
   pub after_own : length (variables p) ≤ x
   pub below_all : x < length (all_variables ps p)
 
--- The own variables of a main goal are the procedure's and the fresh ones.
+-- The main goal counts the procedure's variables and the fresh ones as its own; those of binders
+-- follow.
 abbrev pub MainGoalsCountFreshVariables : Type 0
-MainGoalsCountFreshVariables = (ps : List TypedProcedure) (p : TypedProcedure) (names : List (List ℕ)) → (main_goal ps p names).own ≡ length (variables p) + length (fresh ps (acts_in p.body))
+MainGoalsCountFreshVariables = (ps : List TypedProcedure) (p : TypedProcedure)
+    (names : List (List ℕ))
+    → (main_goal ps p names).own ≡ length (variables p) + length (fresh ps (acts_in p.body))
 
--- In a file that meets the rules, the pre and the generated form are over the procedure's own variables.
+-- In a file that satisfies the static rules, the pre and the generated form have free only
+-- variables of the procedure.
 abbrev pub MainFormsAreOverOwnVariables : Type 0
-MainFormsAreOverOwnVariables = (ps : List TypedProcedure) (p : ℕ) → Each (MeetsRules ps) ps → p < length ps → IsOver (length (variables (procedure_at ps p))) (procedure_at ps p).pre × IsOver (length (variables (procedure_at ps p))) (generated_form ps (procedure_at ps p))
+MainFormsAreOverOwnVariables = (ps : List TypedProcedure) (p : ℕ) → Each (MeetsRules ps) ps
+    → p < length ps → IsOver (length (variables (procedure_at ps p))) (procedure_at ps p).pre
+    × IsOver (length (variables (procedure_at ps p))) (generated_form ps (procedure_at ps p))
 
--- So a fresh variable is free in neither.
+-- A fresh variable is free neither in the pre nor in the generated form.
 abbrev pub FreshVariablesAreNotFree : Type 0
-FreshVariablesAreNotFree = (ps : List TypedProcedure) (p : ℕ) (x : ℕ) → Each (MeetsRules ps) ps → p < length ps → IsFreshNumber ps (procedure_at ps p) x → (is_free x (procedure_at ps p).pre ≡ false) × (is_free x (generated_form ps (procedure_at ps p)) ≡ false)
+FreshVariablesAreNotFree = (ps : List TypedProcedure) (p : ℕ) (x : ℕ) → Each (MeetsRules ps) ps
+    → p < length ps → IsFreshNumber ps (procedure_at ps p) x
+    → (is_free x (procedure_at ps p).pre ≡ false)
+    × (is_free x (generated_form ps (procedure_at ps p)) ≡ false)
 
--- And it occurs in neither form of the main goal, in which nothing is bound and the binders' variables come after all of these.
+-- A fresh variable occurs in neither form of the main goal. These have no binders, and the
+-- variables of binders follow the fresh ones.
 abbrev pub MainGoalsLackFreshVariables : Type 0
-MainGoalsLackFreshVariables = (ps : List TypedProcedure) (p : ℕ) (names : List (List ℕ)) (x : ℕ) → Each (MeetsRules ps) ps → p < length ps → IsFreshNumber ps (procedure_at ps p) x → (occurs x (main_goal ps (procedure_at ps p) names).stated ≡ false) × (occurs x (main_goal ps (procedure_at ps p) names).found ≡ false)
+MainGoalsLackFreshVariables = (ps : List TypedProcedure) (p : ℕ) (names : List (List ℕ)) (x : ℕ)
+    → Each (MeetsRules ps) ps → p < length ps → IsFreshNumber ps (procedure_at ps p) x
+    → (occurs x (main_goal ps (procedure_at ps p) names).stated ≡ false)
+    × (occurs x (main_goal ps (procedure_at ps p) names).found ≡ false)

@@ -1,5 +1,5 @@
-//! The encoding of a call. The fresh variables that stand for the called procedure's inputs and outputs have numbers from a first
-//! one on.
+//! The encoding of a call. The fresh variables for the callee's inputs and outputs are numbered
+//! from `first` on.
 
 ghost use Rattle.heylo_formula.specs.PlainTrees.{form_of, term_of};
 ghost use Rattle.heylo_formula.specs.Shifts.{shifted};
@@ -17,7 +17,7 @@ use heyvl_places::Span;
 use k_induction::{may, must};
 use std::alloc::{AllocError, Global};
 
-/// The arguments are given to the fresh inputs, and the pre is shown.
+/// Appends the assignments of the arguments to the fresh inputs, and the assertion of the pre.
 pub(crate) fn add_entry(
     alloc: Global,
     callee: &TProc,
@@ -29,7 +29,12 @@ pub(crate) fn add_entry(
 ) -> Result<(), AllocError>
     requires callee { IsCallee callee.now }
     requires room { first + length arguments.now ≤ 2 ^ 31 }
-    ensures { OnOk result ((rest : plain_acts) → join (acts_of made.new.items) rest ≡ join (acts_of made.old.items) (sets span first (terms_of arguments.now) (plain_acts.next (plain_act.check (must up) (shifted first (form_of callee.now.pre)) span) rest))) }
+    ensures { OnOk result ((rest : plain_acts)
+        → join (acts_of made.new.items) rest
+        ≡ join (acts_of made.old.items)
+        (sets span first (terms_of arguments.now)
+        (plain_acts.next (plain_act.check (must up) (shifted first (form_of callee.now.pre)) span)
+        rest))) }
 {
     add_sets(alloc, first, arguments, span, made)?;
     let pre = callee.pre.shifted(alloc, first)?;
@@ -37,7 +42,7 @@ pub(crate) fn add_entry(
     Ok(())
 }
 
-/// The arguments are given to the variables from the first on.
+/// Appends the assignments of the arguments to the variables from `first` on.
 fn add_sets(
     alloc: Global,
     first: u32,
@@ -46,7 +51,9 @@ fn add_sets(
     made: &mut Vec<Act>,
 ) -> Result<(), AllocError>
     requires { first + length arguments.now ≤ 2 ^ 31 }
-    ensures { OnOk result ((rest : plain_acts) → join (acts_of made.new.items) rest ≡ join (acts_of made.old.items) (sets span first (terms_of arguments.now) rest)) }
+    ensures { OnOk result ((rest : plain_acts)
+        → join (acts_of made.new.items) rest
+        ≡ join (acts_of made.old.items) (sets span first (terms_of arguments.now) rest)) }
 {
     let mut x = first;
     for argument in arguments {
@@ -56,7 +63,8 @@ fn add_sets(
     Ok(())
 }
 
-/// The post is taken as given for any values of the fresh outputs, and these are given to the targets.
+/// Appends the arbitrary values of the fresh outputs, the assumption of the post, and the
+/// assignments of the outputs to the targets.
 pub(crate) fn add_return(
     alloc: Global,
     callee: &TProc,
@@ -69,7 +77,9 @@ pub(crate) fn add_return(
     requires callee { IsCallee callee.now }
     requires room { first ≤ 2 ^ 30 }
     requires targets { length targets.now ≡ length (procedure_of callee.now).outputs }
-    ensures { OnOk result (acts_of made.new.items ≡ join (acts_of made.old.items) (returned up span first targets.now (procedure_of callee.now))) }
+    ensures { OnOk result (acts_of made.new.items
+        ≡ join (acts_of made.old.items)
+        (returned up span first targets.now (procedure_of callee.now))) }
 {
     let outputs = outputs_of(callee);
     let from = first + callee.inputs;
@@ -81,7 +91,7 @@ pub(crate) fn add_return(
     Ok(())
 }
 
-/// The variables from the first on take any values of these variables' types.
+/// Appends acts by which the variables from `first` on take any values of these variables' types.
 fn add_any(
     up: bool,
     first: u32,
@@ -90,7 +100,10 @@ fn add_any(
     made: &mut Vec<Act>,
 ) -> Result<(), AllocError>
     requires { first + length all.now ≤ 2 ^ 31 }
-    ensures { OnOk result ((rest : plain_acts) → join (acts_of made.new.items) rest ≡ join (acts_of made.old.items) (any_block up span first (type_list (plain_variables all.now)) rest)) }
+    ensures { OnOk result ((rest : plain_acts)
+        → join (acts_of made.new.items) rest
+        ≡ join (acts_of made.old.items)
+        (any_block up span first (type_list (plain_variables all.now)) rest)) }
 {
     let mut x = first;
     for variable in all {
@@ -100,7 +113,8 @@ fn add_any(
     Ok(())
 }
 
-/// The targets take the values of the variables from the first on, which have these variables' types.
+/// Appends the assignments of the variables from `first` on, which have these variables' types, to
+/// the targets.
 fn add_gets(
     targets: &[u32],
     all: &[VarInfo],
@@ -110,7 +124,9 @@ fn add_gets(
 ) -> Result<(), AllocError>
     requires room { first + length all.now ≤ 2 ^ 31 }
     requires targets { length targets.now ≡ length all.now }
-    ensures { OnOk result (acts_of made.new.items ≡ join (acts_of made.old.items) (gets span targets.now (type_list (plain_variables all.now)) first)) }
+    ensures { OnOk result (acts_of made.new.items
+        ≡ join (acts_of made.old.items)
+        (gets span targets.now (type_list (plain_variables all.now)) first)) }
 {
     let mut x = first;
     for i in 0..targets.len() {
@@ -120,7 +136,7 @@ fn add_gets(
     Ok(())
 }
 
-/// A variable of the type, as a term.
+/// Returns the variable `x` of the type as a term.
 fn read(x: u32, ty: Ty) -> Term
     ensures { term_of result ≡ read x ty }
 {

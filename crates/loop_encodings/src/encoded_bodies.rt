@@ -2,10 +2,10 @@
 
 use heyvl_acts::{Act, VarInfo};
 
-/// Acts without loops and calls, and the variables over which they are.
+/// Acts without loops and calls, and their variables.
 #[derive(Drop)]
 pub struct Encoded {
     pub acts: Vec<Act>,
-    /// The procedure's variables, and then the fresh ones.
+    /// The procedure's variables, then the fresh ones.
     pub vars: Vec<VarInfo>,
 }

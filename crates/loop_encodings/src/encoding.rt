@@ -3,7 +3,8 @@
 ghost use Rattle.heylo_formula.specs.Typing.{IsFormula, types_in};
 ghost use Rattle.heyvl_acts.specs.Acts.{Acts as plain_acts, acts_in, join, procedure_at, type_list};
 ghost use Rattle.heyvl_acts.specs.Count.{count_of};
-ghost use Rattle.heyvl_acts.specs.PlainActs.{act_of, acts_of, procedure_of, procedures_of, variable_of};
+ghost use Rattle.heyvl_acts.specs.PlainActs.{act_of, acts_of, procedure_of, procedures_of};
+ghost use Rattle.heyvl_acts.specs.PlainActs.{variable_of};
 ghost use Rattle.heyvl_acts.specs.Rules.{MeetsAllRules};
 ghost use Rattle.heyvl_acts.specs.WellTypedActs.{ActsFit};
 ghost use Rattle.loop_encodings.specs.Encoding.{all_variables, encoded, encoded_act, encoding};
@@ -18,15 +19,23 @@ use crate::variables::{add_variables, interface_of};
 use heyvl_acts::{Act, TProc, Typed, VarInfo};
 use std::alloc::{AllocError, Global};
 
-/// The encoding of the procedure's body; of none where it has no body. Its acts hold no loop and no call.
+/// Returns the encoding of the body of the procedure `p`, which contains no loop and no call.
+/// Without a body it has no acts.
 pub fn encode(alloc: Global, typed: &Typed, p: u32) -> Result<Encoded, AllocError>
     requires there { p < length typed.now.procs.items }
     requires rules { MeetsAllRules typed.now }
-    ensures acts { IfOk result (λ made. acts_of made.acts.items ≡ encoding (procedures_of typed.now) (procedure_at (procedures_of typed.now) p)) }
-    ensures vars { IfOk result (λ made. map variable_of made.vars.items ≡ all_variables (procedures_of typed.now) (procedure_at (procedures_of typed.now) p)) }
-    ensures typed { IfOk result (λ made. ActsFit (types_in (type_list (map variable_of made.vars.items))) (acts_of made.acts.items)) }
-    ensures post { IfOk result (λ made. IsFormula (types_in (type_list (map variable_of made.vars.items))) (procedure_at (procedures_of typed.now) p).post) }
-    ensures count { IfOk result (λ made. count_of (acts_of made.acts.items) ≡ count_of (acts_in (procedure_at (procedures_of typed.now) p).body)) }
+    ensures acts { IfOk result (λ made. acts_of made.acts.items
+        ≡ encoding (procedures_of typed.now) (procedure_at (procedures_of typed.now) p)) }
+    ensures vars { IfOk result (λ made. map variable_of made.vars.items
+        ≡ all_variables (procedures_of typed.now) (procedure_at (procedures_of typed.now) p)) }
+    ensures typed { IfOk result
+        (λ made. ActsFit (types_in (type_list (map variable_of made.vars.items)))
+        (acts_of made.acts.items)) }
+    ensures post { IfOk result
+        (λ made. IsFormula (types_in (type_list (map variable_of made.vars.items)))
+        (procedure_at (procedures_of typed.now) p).post) }
+    ensures count { IfOk result (λ made. count_of (acts_of made.acts.items)
+        ≡ count_of (acts_in (procedure_at (procedures_of typed.now) p).body)) }
 {
     let procedure = &typed.procs[p as usize];
     let mut vars = Vec::new(alloc);
@@ -35,7 +44,7 @@ pub fn encode(alloc: Global, typed: &Typed, p: u32) -> Result<Encoded, AllocErro
     Ok(Encoded { acts, vars })
 }
 
-/// The encoding of the body, if there is one; the fresh variables are appended.
+/// Returns the encoding of the body, if there is one, and appends the fresh variables to `vars`.
 fn body_acts(
     alloc: Global,
     typed: &Typed,
@@ -43,10 +52,17 @@ fn body_acts(
     vars: &mut Vec<VarInfo>,
 ) -> Result<Vec<Act>, AllocError>
     requires rules { MeetsAllRules typed.now }
-    requires ready { AreReady (procedures_of typed.now) (procedure_of procedure.now) (acts_in (procedure_of procedure.now).body) }
-    requires room { length (plain_variables vars.old.items) + length (fresh (procedures_of typed.now) (acts_in (procedure_of procedure.now).body)) ≤ 2 ^ 30 }
-    ensures acts { IfOk result (λ made. acts_of made.items ≡ encoded (procedures_of typed.now) (procedure_of procedure.now) (length (plain_variables vars.old.items)) (acts_in (procedure_of procedure.now).body)) }
-    ensures vars { OnOk result (plain_variables vars.new.items ≡ plain_variables vars.old.items ++ fresh (procedures_of typed.now) (acts_in (procedure_of procedure.now).body)) }
+    requires ready { AreReady (procedures_of typed.now) (procedure_of procedure.now)
+        (acts_in (procedure_of procedure.now).body) }
+    requires room { length (plain_variables vars.old.items)
+        + length (fresh (procedures_of typed.now) (acts_in (procedure_of procedure.now).body))
+        ≤ 2 ^ 30 }
+    ensures acts { IfOk result
+        (λ made. acts_of made.items
+        ≡ encoded (procedures_of typed.now) (procedure_of procedure.now)
+        (length (plain_variables vars.old.items)) (acts_in (procedure_of procedure.now).body)) }
+    ensures vars { OnOk result (plain_variables vars.new.items ≡ plain_variables vars.old.items
+        ++ fresh (procedures_of typed.now) (acts_in (procedure_of procedure.now).body)) }
 {
     match &procedure.body {
         Some(acts) => encoded_acts(alloc, typed, procedure, vars, acts),
@@ -54,7 +70,7 @@ fn body_acts(
     }
 }
 
-/// The encoding of acts; the fresh variables are appended.
+/// Returns the encoding of the acts, and appends the fresh variables to `vars`.
 #[cycle(encoding)]
 fn encoded_acts(
     alloc: Global,
@@ -64,10 +80,16 @@ fn encoded_acts(
     acts: &[Act],
 ) -> Result<Vec<Act>, AllocError>
     requires rules { MeetsAllRules typed.now }
-    requires ready { AreReady (procedures_of typed.now) (procedure_of procedure.now) (acts_of acts.now) }
-    requires room { length (plain_variables vars.old.items) + length (fresh (procedures_of typed.now) (acts_of acts.now)) ≤ 2 ^ 30 }
-    ensures acts { IfOk result (λ made. acts_of made.items ≡ encoded (procedures_of typed.now) (procedure_of procedure.now) (length (plain_variables vars.old.items)) (acts_of acts.now)) }
-    ensures vars { OnOk result (plain_variables vars.new.items ≡ plain_variables vars.old.items ++ fresh (procedures_of typed.now) (acts_of acts.now)) }
+    requires ready { AreReady (procedures_of typed.now) (procedure_of procedure.now)
+        (acts_of acts.now) }
+    requires room { length (plain_variables vars.old.items)
+        + length (fresh (procedures_of typed.now) (acts_of acts.now)) ≤ 2 ^ 30 }
+    ensures acts { IfOk result
+        (λ made. acts_of made.items
+        ≡ encoded (procedures_of typed.now) (procedure_of procedure.now)
+        (length (plain_variables vars.old.items)) (acts_of acts.now)) }
+    ensures vars { OnOk result (plain_variables vars.new.items ≡ plain_variables vars.old.items
+        ++ fresh (procedures_of typed.now) (acts_of acts.now)) }
 {
     let mut made = Vec::new(alloc);
     for act in acts {
@@ -76,7 +98,7 @@ fn encoded_acts(
     Ok(made)
 }
 
-/// The encoding of an act is appended; so are its fresh variables.
+/// Appends the encoding of the act to `made`, and its fresh variables to `vars`.
 #[cycle(encoding)]
 fn add_act(
     alloc: Global,
@@ -87,10 +109,17 @@ fn add_act(
     act: &Act,
 ) -> Result<(), AllocError>
     requires rules { MeetsAllRules typed.now }
-    requires ready { IsReady (procedures_of typed.now) (procedure_of procedure.now) (act_of act.now) }
-    requires room { length (plain_variables vars.old.items) + length (fresh_of_act (procedures_of typed.now) (act_of act.now)) ≤ 2 ^ 30 }
-    ensures acts { OnOk result (acts_of made.new.items ≡ join (acts_of made.old.items) (encoded_act (procedures_of typed.now) (procedure_of procedure.now) (length (plain_variables vars.old.items)) (act_of act.now))) }
-    ensures vars { OnOk result (plain_variables vars.new.items ≡ plain_variables vars.old.items ++ fresh_of_act (procedures_of typed.now) (act_of act.now)) }
+    requires ready { IsReady (procedures_of typed.now) (procedure_of procedure.now)
+        (act_of act.now) }
+    requires room { length (plain_variables vars.old.items)
+        + length (fresh_of_act (procedures_of typed.now) (act_of act.now)) ≤ 2 ^ 30 }
+    ensures acts { OnOk result
+        (acts_of made.new.items
+        ≡ join (acts_of made.old.items)
+        (encoded_act (procedures_of typed.now) (procedure_of procedure.now)
+        (length (plain_variables vars.old.items)) (act_of act.now))) }
+    ensures vars { OnOk result (plain_variables vars.new.items ≡ plain_variables vars.old.items
+        ++ fresh_of_act (procedures_of typed.now) (act_of act.now)) }
 {
     match act {
         Act::If(arms, other, span) => {
@@ -154,9 +183,10 @@ fn add_act(
     }
 }
 
-/// A copy of the act is appended.
+/// Appends a copy of the act.
 fn add_copy(alloc: Global, made: &mut Vec<Act>, act: &Act) -> Result<(), AllocError>
-    ensures { OnOk result (acts_of made.new.items ≡ join (acts_of made.old.items) (plain_acts.next (act_of act.now) plain_acts.done)) }
+    ensures { OnOk result (acts_of made.new.items
+        ≡ join (acts_of made.old.items) (plain_acts.next (act_of act.now) plain_acts.done)) }
 {
     made.push(act.copy(alloc)?)?;
     Ok(())

@@ -1,17 +1,18 @@
-//! The laws of encodings. Each function does nothing: its contract is the law.
+//! Laws of encodings. Each function does nothing: its contract is the law.
 
 ghost use Rattle.loop_encodings.specs.EncodingLaws as encodings;
 ghost use Rattle.loop_encodings.specs.FreshLaws as new;
 
-/// The encoding of a procedure of a file that meets the rules is over its own variables and the fresh ones, and gives any
-/// value to these alone.
+/// States that, in a file that satisfies the static rules, the encoding of a procedure reads only
+/// the procedure's variables and the fresh ones, and gives any value only to these.
 pub fn encodings_are_over_their_variables()
     ensures over { encodings.EncodingIsOver }
     ensures binds { encodings.EncodingBindsItsVariables }
 {}
 
-/// In a main goal the fresh variables are counted among the goal's own, and occur in neither form: the pre and the form that is
-/// generated from the encoding are over the procedure's own variables, in a file that meets the rules.
+/// States that a main goal counts the fresh variables as its own, but they occur in neither form:
+/// in a file that satisfies the static rules, the pre and the generated form have free only
+/// variables of the procedure.
 pub fn main_goals_lack_fresh_variables()
     ensures counted { new.MainGoalsCountFreshVariables }
     ensures over { new.MainFormsAreOverOwnVariables }

@@ -1,4 +1,6 @@
 //! The encoding of loops by invariants and copies, and of calls by contracts.
+//!
+//! `AllocError` means that memory ran out.
 #![tactic(auto)]
 
 mod calls;

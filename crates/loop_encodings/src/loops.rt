@@ -1,4 +1,4 @@
-//! The encoding of a loop, whose body is encoded already.
+//! The encoding of a loop whose body is already encoded.
 
 ghost use Rattle.heyvl_acts.specs.Acts.{Acts as plain_acts, join, types_of};
 ghost use Rattle.heyvl_acts.specs.ModifiedVariables.{modified};
@@ -14,7 +14,7 @@ use k_induction::{if_holds, may, must, stated, unrolled};
 use proc_contracts::modified;
 use std::alloc::{AllocError, Global};
 
-/// The encoding of the loop is appended.
+/// Appends the encoding of the loop.
 pub(crate) fn add_loop(
     alloc: Global,
     procedure: &TProc,
@@ -24,7 +24,10 @@ pub(crate) fn add_loop(
 ) -> Result<(), AllocError>
     requires some { 1 ≤ one.now.k }
     requires scope { GrowBelow 0 (length procedure.now.vars.items) one.now.scope.items }
-    ensures { OnOk result (acts_of made.new.items ≡ join (acts_of made.old.items) (encoded_loop procedure.now.co (types_of (procedure_of procedure.now)) (head_of one.now) (modified one.now.scope.items (acts_of one.now.body.items)) (acts_of body.now))) }
+    ensures { OnOk result (acts_of made.new.items
+        ≡ join (acts_of made.old.items)
+        (encoded_loop procedure.now.co (types_of (procedure_of procedure.now)) (head_of one.now)
+        (modified one.now.scope.items (acts_of one.now.body.items)) (acts_of body.now))) }
 {
     made.push(stated(alloc, must(procedure.co), &one.inv, one.span)?)?;
     let found = modified(alloc, one)?;
@@ -33,7 +36,7 @@ pub(crate) fn add_loop(
     Ok(())
 }
 
-/// Any values of the variables are appended.
+/// Appends acts by which the variables take any values of their types.
 fn add_havocs(
     procedure: &TProc,
     span: Span,
@@ -41,7 +44,10 @@ fn add_havocs(
     made: &mut Vec<Act>,
 ) -> Result<(), AllocError>
     requires { GrowBelow 0 (length procedure.now.vars.items) found.now }
-    ensures { OnOk result ((rest : plain_acts) → join (acts_of made.new.items) rest ≡ join (acts_of made.old.items) (havocs procedure.now.co span (types_of (procedure_of procedure.now)) found.now rest)) }
+    ensures { OnOk result ((rest : plain_acts)
+        → join (acts_of made.new.items) rest
+        ≡ join (acts_of made.old.items)
+        (havocs procedure.now.co span (types_of (procedure_of procedure.now)) found.now rest)) }
 {
     for x in found {
         let ty = procedure.vars[*x as usize].ty;
@@ -50,7 +56,8 @@ fn add_havocs(
     Ok(())
 }
 
-/// The copies of the body, for values for which the invariant is taken as given, are appended.
+/// Appends the assumption of the invariant, and the copies of the body for the case that the guard
+/// holds.
 fn add_test(
     alloc: Global,
     up: bool,
@@ -59,7 +66,8 @@ fn add_test(
     made: &mut Vec<Act>,
 ) -> Result<(), AllocError>
     requires { 1 ≤ one.now.k }
-    ensures { OnOk result (acts_of made.new.items ≡ join (acts_of made.old.items) (tested up (head_of one.now) (acts_of body.now))) }
+    ensures { OnOk result (acts_of made.new.items
+        ≡ join (acts_of made.old.items) (tested up (head_of one.now) (acts_of body.now))) }
 {
     made.push(Act::Validate(up, one.span))?;
     made.push(stated(alloc, may(up), &one.inv, one.span)?)?;

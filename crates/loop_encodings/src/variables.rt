@@ -7,13 +7,14 @@ ghost use Rattle.std.specs.Prelude.{IfOk, OnOk, ◌++◌, ◌≡◌};
 use heyvl_acts::{TProc, VarInfo};
 use std::alloc::{AllocError, Global};
 
-/// Variables of the same names and types are appended.
+/// Appends copies of the variables.
 pub(crate) fn add_variables(
     alloc: Global,
     all: &[VarInfo],
     vars: &mut Vec<VarInfo>,
 ) -> Result<(), AllocError>
-    ensures { OnOk result (plain_variables vars.new.items ≡ plain_variables vars.old.items ++ plain_variables all.now) }
+    ensures { OnOk result (plain_variables vars.new.items ≡ plain_variables vars.old.items
+        ++ plain_variables all.now) }
 {
     for variable in all {
         vars.push(copied(alloc, variable)?)?;
@@ -30,16 +31,17 @@ fn copied(alloc: Global, variable: &VarInfo) -> Result<VarInfo, AllocError>
     })
 }
 
-/// The inputs of a procedure, and then its outputs.
+/// Returns the inputs of a procedure, then its outputs.
 pub(crate) fn interface_of(procedure: &TProc) -> &[VarInfo]
     requires { IsCallee procedure.now }
-    ensures { plain_variables result.now ≡ (procedure_of procedure.now).inputs ++ (procedure_of procedure.now).outputs }
+    ensures { plain_variables result.now ≡ (procedure_of procedure.now).inputs
+        ++ (procedure_of procedure.now).outputs }
 {
     let count = (procedure.inputs + procedure.outputs) as usize;
     &procedure.vars[..count]
 }
 
-/// The outputs of a procedure.
+/// Returns the outputs of a procedure.
 pub(crate) fn outputs_of(procedure: &TProc) -> &[VarInfo]
     requires { IsCallee procedure.now }
     ensures { plain_variables result.now ≡ (procedure_of procedure.now).outputs }

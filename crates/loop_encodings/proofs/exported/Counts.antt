@@ -1,4 +1,5 @@
--- Meant for the proofs of other crates. The body of a procedure of a file that meets the rules has few fresh variables.
+-- For other crates: the body of a procedure of a file that satisfies the static rules has few fresh
+-- variables.
 use Rattle.std.proofs.Common.{◌≤◌, ◌<◌, ℕ, List, length}
 use Rattle.heyvl_acts.specs.Acts.{TypedProcedure, acts_in, procedure_at}
 use Rattle.heyvl_acts.specs.Count.{count_of}

@@ -1,2 +1,2 @@
--- Meant for the proofs of other crates. The variables of a procedure, by their parts.
+-- For other crates: the variables of a procedure, by their parts.
 pub use Rattle.loop_encodings.proofs.OwnVariables.{own_variables, own_length}

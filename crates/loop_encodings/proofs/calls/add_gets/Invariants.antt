@@ -5,6 +5,6 @@ use Rattle.loop_encodings.specs.Encoding.{gets}
 use Rattle.loop_encodings.specs.internal.Ready.{plain_variables}
 use Rattle.loop_encodings.proofs.calls.add_gets.Given as goal
 
--- What is appended and what is left are what all are.
+-- The acts so far and those that are left make the whole block.
 abbrev pub invariant-loop-i : goal.invariant-loop-i
 invariant-loop-i l = (l.x ≡ l.first + l.i) × (join (acts_of l.made.items) (gets l.span (drop l.i l.targets) (type_list (plain_variables (drop l.i l.all))) l.x) ≡ join (acts_of l.initial.made.items) (gets l.span l.targets (type_list (plain_variables l.all)) l.first))
