@@ -8,14 +8,13 @@ use Rattle.heyvl_acts.specs.Rules.{Each}
 use Rattle.bounded_runs.proofs.ModifiedVariables.{equal_of, or_first, or_second, self}
 use Rattle.bounded_runs.proofs.RuledPrograms.{CallsOnly}
 
--- The predicate holds of a call of the procedure.
+-- The acts have a call of the procedure `q` that satisfies `P`.
 pub record IsCalled (P : Act → Type 0) (q : ℕ) : Type 0 where
   pub targets : List ℕ
   pub arguments : List Term
   pub span : Span
   pub holds : P (Act.call targets q arguments span)
 
--- Where the predicate holds of each act, it holds of the call.
 pub called : (P : Act → Type 0) (q : ℕ) (acts : List Act) → calls q acts ≡ true → Each P acts → IsCalled P q
 called P q [] e h = absurd (cc)
 called P q (Act.set x t span ∷ rest) e h = called P q rest e h.1
@@ -34,7 +33,6 @@ called P q (Act.call xs r es span ∷ rest) e h = go (r == q) refl (λ l. called
     go true k more = let same = equal_of r q k in record { targets = xs; arguments = es; span = span; holds = subst (λ n. P (Act.call xs n es span)) same h.0 }
     go false k more = more (let l : calls q rest ≡ true = rw k at e in l)
 
--- Where R holds of each procedure that the acts call, they call no others.
 pub calls_only : (R : ℕ → Type 0) (acts : List Act) → ((q : ℕ) → calls q acts ≡ true → R q) → Each (CallsOnly R) acts
 calls_only R [] f = tt
 calls_only R (Act.set x t span ∷ rest) f = (tt, calls_only R rest f)
@@ -49,7 +47,6 @@ calls_only R (Act.validate co span ∷ rest) f = (tt, calls_only R rest f)
 calls_only R (Act.loop k b ∷ rest) f = (tt, calls_only R rest f)
 calls_only R (Act.call xs q es span ∷ rest) f = (f q (or_first (q == q) (calls q rest) (self q)), calls_only R rest (λ r e. f r (or_second (q == r) (calls r rest) e)))
 
--- What a reached procedure calls is reached.
 pub reaches_then : (ps : List TypedProcedure) (p n q : ℕ) → Reaches ps p n → Calls ps n q → Reaches ps p q
 reaches_then ps _ _ q (Reaches.directly p n c) d = Reaches.onward p n q c (Reaches.directly n q d)
 reaches_then ps _ _ q (Reaches.onward p m n c w) d = Reaches.onward p m q c (reaches_then ps m n q w d)

@@ -1,5 +1,6 @@
--- The bounds of runs, for coprocs and for weak procs: what a configuration leads to is covered by the meaning of its items,
--- or else a call under way is shown to break its contract.
+-- The bounds of runs, for coprocs and for procs with `@wlp`. The runs of a configuration are
+-- covered by the meaning of its items, or else some call that has not returned is shown to break
+-- its contract.
 use Rattle.std.proofs.Common.{◌≡◌, ◌≢◌, ◌≤◌, ◌<◌, ℕ, leb, refl, sym, ap, ap₂, ◌∙◌, subst, arith, Bool, true, false, cond, List, [], ◌∷◌, ◌++◌, ◌⊎◌, inl, inr, ◌==◌}
 use Rattle.std.specs.Prelude.{length, set, eqb}
 use Rattle.std.proofs.lemmas.Bool.Decides.{eqb_tells, leb_tells}
@@ -52,10 +53,10 @@ use Rattle.bounded_runs.proofs.Monotone.{both, behind, args_typed, begun_value, 
 use Rattle.bounded_runs.proofs.LoopTurns.{Cover, Some, turn_value, begun_turn, turn_on, turn_off}
 use Rattle.bounded_runs.proofs.Kept.{owner, Waits, ItemsFit, FramesFit, IsConfig, AllNext, everything, items_more, items_push, step_kept, spread_from_zero, runs_from_zero, post_value, post_held}
 
--- ---- What items mean
+-- ---- The meaning of items
 
--- The loops under way have labels, the innermost one first: how many copies of the body each still counts on. The callers have
--- a list each.
+-- The loops under way have labels, the innermost one first: the number of copies of the body that
+-- each still counts on. Each caller has its own list of labels.
 abbrev label : List ℕ → ℕ
 label [] = 0
 label (j ∷ js) = j
@@ -84,7 +85,6 @@ push_value : (up : Bool) (types : Types) (ps : List TypedProcedure) (k : Post) (
 push_value up types ps k Acts.done is js = refl
 push_value up types ps k (Acts.next a rest) is js = ap (meaning_act up types ps a) (push_value up types ps k rest is js)
 
--- choices for the block that is taken are part of choices for the whole
 taken_block : (up : Bool) (types : Types) (ps : List TypedProcedure) (P : Value → Type 0) (arms : Arms) (e : Acts) (span : Span) (k : Post) (s : List Val) → Some P (meaning up types ps (taken arms e (environment s)) k (environment s)) → Some P (meaning_act up types ps (Act.ifs arms e span) k (environment s))
 taken_block up types ps P Arms.no_arm e span k s f = record { choices = f.choices; covers = f.covers }
 taken_block up types ps P (Arms.arm g b more) e span k s f = go (holds g (environment s) Choices.stop) (taken_block up types ps P more e span k s) f
@@ -124,7 +124,7 @@ turn_on_scope : (up : Bool) (types : Types) (v : Visible) (h : Head) (b : Acts) 
 turn_on_scope up types v h b si sg body car k r j s t c a = ap₂ (checked (must up)) (way_on up v h si sg body car k r j s t (left c) a) (blame_on up v h si sg body car k r types (modified h.scope b) s t (right c) a)
 
 module _ (up : Bool) (ps : List TypedProcedure) (R : ℕ → Type 0) (hold : (n : ℕ) → R n → IsBoundedProgram up ps R (procedure_at ps n)) (main : TypedProcedure) (mains : IsBoundedProgram up ps R main) where
-  -- the procedure that runs, and what fits it
+  -- The procedure that runs, and the types of its variables.
   abbrev own : List Frame → TypedProcedure
   own fs = owner up ps R hold main fs
 
@@ -143,7 +143,7 @@ module _ (up : Bool) (ps : List TypedProcedure) (R : ℕ → Type 0) (hold : (n 
   abbrev Next : Outcomes → Type 0
   Next xs = AllNext up ps R hold main xs
 
-  -- the meaning of acts of the procedure that runs, and of a loop under way
+  -- The meaning of acts of the procedure that runs, and of a loop under way.
   abbrev means : List Frame → Acts → Post → Post
   means fs b = meaning up (types fs) ps b
 
@@ -153,18 +153,18 @@ module _ (up : Bool) (ps : List TypedProcedure) (R : ℕ → Type 0) (hold : (n 
   abbrev turn : List Frame → Head → Acts → Post → ℕ → Post
   turn fs h b k j = turn_value up (types fs) (means fs b) h b k j
 
-  -- the post of the procedure that runs
+  -- The post of the procedure that runs.
   abbrev end : List Frame → Post
   end fs s c = value (own fs).post s Choices.stop
 
-  -- the sum of the runs of a configuration, and of those of outcomes
+  -- The sum over the runs of a configuration, and over those of outcomes.
   abbrev Total : ℕ → Config → Tree → Value
   Total n c t = sum_of up main.post (runs ps n c t)
 
   abbrev Spread : ℕ → Outcomes → Forest → Value
   Spread n xs ts = sum_of up main.post (spread (runs ps n) xs ts)
 
-  -- what the items of the procedure that runs mean
+  -- The meaning of the items of the procedure that runs.
   abbrev items : List Frame → List Item → List ℕ → Post
   items fs is js = items_value up (types fs) ps (end fs) is js
 
@@ -178,7 +178,7 @@ module _ (up : Bool) (ps : List TypedProcedure) (R : ℕ → Type 0) (hold : (n 
   cover_is : (x r : Value) → (up ≡ false → zeroᵛ ≤ᵛ x) → Cover up (Covered up x r)
   cover_is x r h = record { closed = λ v w k q. covered_more up x r v w k q; at_worst = covered_worst up x r h }
 
-  -- ---- On the safe side of a run that has not ended
+  -- ---- On the safe side of a run that has not terminated
 
   begun_end : (fs : List Frame) → Frames fs → Begun up ps R hold (own fs) (end fs)
   begun_end fs g s c h = at (own fs) (holds_of fs g) h
@@ -193,7 +193,7 @@ module _ (up : Bool) (ps : List TypedProcedure) (R : ℕ → Type 0) (hold : (n 
   begun_items fs gf v (Item.out x ty ∷ is) g js s c h = begun_items fs gf (shown x v) is g.1 js _ (left c) (put_keeps (types fs) s x _ h (subst (λ t. has t (fit ty (here c)) ≡ true) (sym g.0.1) (fit_has ty (here c))))
   begun_items fs gf v (Item.back ∷ is) g js s c h = begun_end fs gf s c h
 
-  -- ---- What items mean depends on the visible variables alone
+  -- ---- The meaning of items depends only on the visible variables
 
   end_on : (fs : List Frame) → Frames fs → (v : Visible) → Sub (interface (own fs)) v → Respects v (end fs)
   end_on fs gf v i s t c a = value_on v (own fs).post s t (λ y h. i y (inside y ((holds_of fs gf).formulas.post_over y h))) a
@@ -213,9 +213,9 @@ module _ (up : Bool) (ps : List TypedProcedure) (R : ℕ → Type 0) (hold : (n 
   alone (f ∷ fs) gf [] g js s h = absurd g
   alone fs gf (i ∷ is) g js s h = begun_items fs gf everything (i ∷ is) g js (environment s) Choices.stop (env_typed (type_list (variables (own fs))) s h)
 
-  -- ---- Calls: the callee's outputs have any values, and then its bound holds
+  -- ---- Calls: the callee's outputs take any values, and then its bound holds
 
-  -- The inputs have these values.
+  -- The inputs have the values `vs`.
   abbrev Starts : TypedProcedure → List Val → Env → Type 0
   Starts q vs s = (y : ℕ) → y < length q.inputs → s y ≡ environment vs y
 
@@ -226,7 +226,6 @@ module _ (up : Bool) (ps : List TypedProcedure) (R : ℕ → Type 0) (hold : (n 
       go (inl e) = absurd (omega (arith, e.1))
       go (inr e) = rw e.0 (h y k)
 
-  -- outputs take any values, each of its type
   through : (q : TypedProcedure) (k : Post) (is : List Item) (x : Value) (vs : List Val) (b : ℕ) (ts : List Ty) → OutsOwn q b ts → ((s : Env) → HasTypes (types_of q) s → Starts q vs s → (c : Choices) → Safe up (items_value up (types_of q) ps k is [] s c) x) → (s : Env) → HasTypes (types_of q) s → Starts q vs s → (c : Choices) → Safe up (items_value up (types_of q) ps k (outs b ts is) [] s c) x
   through q k is x vs b [] o f s t e c = f s t e c
   through q k is x vs b (ty ∷ ts) o f s t e c = through q k is x vs (suc b) ts o.1 f (put b (fit ty (here c)) s) (put_keeps (types_of q) s b _ t (subst (λ u. has u (fit ty (here c)) ≡ true) (sym o.0.1) (fit_has ty (here c)))) (starts_put q vs s b _ o.0.0.no_input e) (left c)
@@ -237,29 +236,28 @@ module _ (up : Bool) (ps : List TypedProcedure) (R : ℕ → Type 0) (hold : (n 
       inner : (s : Env) → HasTypes (types_of (procedure_at ps p)) s → Starts (procedure_at ps p) vs s → (c : Choices) → Safe up (items_value up (types_of (procedure_at ps p)) ps (λ s c. value (procedure_at ps p).post s Choices.stop) (push (acts_in (procedure_at ps p).body) (Item.back ∷ [])) [] s c) (given (procedure_at ps p).pre vs)
       inner s u e c = subst (λ (k : Post). Safe up (k s c) (given (procedure_at ps p).pre vs)) (sym (push_value up (types_of (procedure_at ps p)) ps _ (acts_in (procedure_at ps p).body) (Item.back ∷ []) [])) (subst (λ v. Safe up (meaning up (types_of (procedure_at ps p)) ps (acts_in (procedure_at ps p).body) (λ s c. value (procedure_at ps p).post s Choices.stop) s c) v) (same_on (procedure_at ps p).pre s (environment vs) Choices.stop (λ y k. e y ((hold p m).formulas.pre_over y k))) (compares_safe up _ _ ((hold p m).bound s c u)))
 
-  -- ---- Escapes
+  -- ---- Broken contracts
 
-  -- Choices that show a caller's call to break its contract.
+  -- Choices that show the call of a caller to break its contract.
   record Broken (f : Frame) (fs : List Frame) (js : List ℕ) (s : List Val) : Type 0 where
     choices : Choices
     broken : call_blame up (procedure_at ps f.callee) f.targets (inputs_of (procedure_at ps f.callee) s) (items fs f.items js) (environment f.state) choices ≡ worst up
 
-  -- So does the call of some caller.
+  -- The call of some caller breaks its contract.
   abbrev Escapes : List Frame → List (List ℕ) → List Val → Type 0
   Escapes [] jss s = ⊥
   Escapes (f ∷ fs) jss s = Broken f fs (top_labels jss) s ⊎ Escapes fs (more_labels jss) f.state
 
-  -- only the values of the inputs matter
   same_escapes : (fs : List Frame) (jss : List (List ℕ)) (s t : List Val) → inputs_of (own fs) t ≡ inputs_of (own fs) s → Escapes fs jss t → Escapes fs jss s
   same_escapes [] jss s t e h = h
   same_escapes (f ∷ fs) jss s t e (inl b) = inl (record { choices = b.choices; broken = subst (λ vs. call_blame up (procedure_at ps f.callee) f.targets vs (items fs f.items (top_labels jss)) (environment f.state) b.choices ≡ worst up) e b.broken })
   same_escapes (f ∷ fs) jss s t e (inr h) = inr h
 
-  -- Some choices give this post a value that covers the sum, or a call under way breaks its contract.
+  -- Some choices give the post a value that covers the sum, or some call breaks its contract.
   abbrev Res : List Frame → List (List ℕ) → Post → List Val → Value → Value → Type 0
   Res fs jss k s x r = Escapes fs jss s ⊎ Some (Covered up x r) (k (environment s))
 
-  -- The runs of at most n steps are covered by the items, whatever labels the loops under way have.
+  -- The runs of at most `n` steps are covered by the items, for all labels of the loops under way.
   abbrev Claim : ℕ → Type 0
   Claim n = (c : Config) → Conf c → (jss : List (List ℕ)) (js : List ℕ) (t : Tree) → Res c.frames jss (items c.frames c.items js) c.state (Total n c t) c.reward
 
@@ -267,20 +265,19 @@ module _ (up : Bool) (ps : List TypedProcedure) (R : ℕ → Type 0) (hold : (n 
     from_sure : (c : Config) → Conf c → (jss : List (List ℕ)) (js : List ℕ) (ts : Forest) → Res c.frames jss (items c.frames c.items js) c.state (Spread n (sure c) ts) c.reward
     from_sure c h jss js ts = subst (λ x. Res c.frames jss (items c.frames c.items js) c.state x c.reward) (sym (sum-sure up main.post (runs ps n) c ts)) (claim c h jss js (first ts))
 
-    -- ---- One step more: the configuration's items are one item and these
+    -- ---- One step more: the configuration's items are one item and then `is`
 
     module _ (c : Config) (gf : Frames c.frames) (st : IsState (own c.frames) c.state) (jss : List (List ℕ)) (is : List Item) (v : Visible) (g : Fit c.frames v is) (ts : Forest) where
       abbrev Res_of : Post → Outcomes → Type 0
       Res_of k xs = Res c.frames jss k c.state (Spread n xs ts) c.reward
 
-      -- the call, entered
+      -- The configuration after the call.
       abbrev entered : List ℕ → ℕ → List Term → Config
       entered xs p es = called c is xs p (procedure_at ps p) (evaluate es (environment c.state))
 
       from_push : (b : Acts) (is : List Item) (js : List ℕ) → Conf (moved c (push b is) c.state) → Res_of (means c.frames b (items c.frames is js)) (sure (moved c (push b is) c.state))
       from_push b is js h = subst (λ (k : Post). Res_of k (sure (moved c (push b is) c.state))) (push_value up (types c.frames) ps (end c.frames) b is js) (from_sure (moved c (push b is) c.state) h jss js ts)
 
-      -- a variable is given a value
       to_put : (js : List ℕ) (x : ℕ) (v : Val) (y : Value) → IsOwn (own c.frames) x → Res c.frames jss (items c.frames is js) (set c.state x v) y c.reward → Escapes c.frames jss c.state ⊎ Some (Covered up y c.reward) (items c.frames is js (put x v (environment c.state)))
       to_put js x v y o (inl e) = inl (same_escapes c.frames jss c.state _ (inputs_set (own c.frames) x v c.state o) e)
       to_put js x v y o (inr f) = inr (subst (λ (s : Env). Some (Covered up y c.reward) (items c.frames is js s)) (own_put (own c.frames) x v c.state o st) f)
@@ -304,7 +301,6 @@ module _ (up : Bool) (ps : List TypedProcedure) (R : ℕ → Type 0) (hold : (n 
           go true e a = turn_on up ps R hold (own c.frames) b h m.0 m.1 (items c.frames is js) (begun_items c.frames gf v is g js) scoped.1.0.0 scoped.1.0.1.0 scoped.1.1 respects (Covered up (Spread n (sure (turned c (push b (Item.turn h b ∷ is)) h.number)) ts) c.reward) (cover_is (Spread n (sure (turned c (push b (Item.turn h b ∷ is)) h.number)) ts) c.reward (next_from_zero n (sure (turned c (push b (Item.turn h b ∷ is)) h.number)) a ts)) (Escapes c.frames jss c.state) (environment c.state) typed e (λ i. subst (λ (k : Post). Res_of k (sure (turned c (push b (Item.turn h b ∷ is)) h.number))) (push_value up (types c.frames) ps (end c.frames) b (Item.turn h b ∷ is) (i ∷ js)) (from_sure (turned c (push b (Item.turn h b ∷ is)) h.number) a.0.1 jss (i ∷ js) ts)) j
           go false e a = turn_off up ps R hold (own c.frames) b h m.0 m.1 (items c.frames is js) (begun_items c.frames gf v is g js) scoped.1.0.0 scoped.1.0.1.0 scoped.1.1 respects (Covered up (Spread n (sure (moved c is c.state)) ts) c.reward) (cover_is (Spread n (sure (moved c is c.state)) ts) c.reward (next_from_zero n (sure (moved c is c.state)) a ts)) (Escapes c.frames jss c.state) (environment c.state) typed e (from_sure (moved c is c.state) a.0.1 jss js ts) j
 
-      -- the parts of a draw, from the left: what is covered so far, and the parts that are left
       from_parts : (x : ℕ) (qs : List (Rational × Term)) → IsOwn (own c.frames) x → PartsFit (types c.frames) x qs → Next (branches c is x qs) → (js : List ℕ) (u : Rational) → zeroʳ ≤ʳ u → (total : Post) (y : Value) → Some (CoveredPart up y u c.reward) (total (environment c.state)) → (ts : Forest) → Escapes c.frames jss c.state ⊎ Some (CoveredPart up (y +ᵛ Spread n (branches c is x qs) ts) (u +ʳ total_weight qs) c.reward) (parts x qs (items c.frames is js) total (environment c.state))
       unfolding total_weight
       from_parts x [] o f a js u p total y h ts = inr (record { choices = h.choices; covers = rw (sum-none up main.post, +ᵛ-zero y, +ʳ-zero u) h.covers })
@@ -395,7 +391,6 @@ module _ (up : Bool) (ps : List TypedProcedure) (R : ℕ → Type 0) (hold : (n 
       go [] g e ih = subst (λ is. Res c.frames jss (items c.frames is js) c.state (sum_of up main.post (sure c)) c.reward) (sym e) (ends_here c h jss js)
       go (i ∷ is) g e ih = from_item n ih c h.frames h.state i is everything g (decision t) (step_kept up ps R hold main i is c h.frames everything g h.state (decision t)) jss js (under t)
 
--- Where the bounds hold by the meanings of the bodies, those of R and this one, the runs of this one are bounded.
 pub bounds : (up : Bool) (ps : List TypedProcedure) (R : ℕ → Type 0) → ((n : ℕ) → R n → IsBoundedProgram up ps R (procedure_at ps n)) → (p : ℕ) → IsBoundedProgram up ps R (procedure_at ps p) → BoundBy up ps p
 bounds up ps R hold p m s t n tree = go (claims up ps R hold (procedure_at ps p) m n (begin ps p s) (record { frames = tt; items = items_more up ps R hold (procedure_at ps p) [] (interface (procedure_at ps p)) everything (λ y e. refl) _ (items_push up ps R hold (procedure_at ps p) [] (interface (procedure_at ps p)) (interface (procedure_at ps p)) (λ y e. e) (λ y e. e) (acts_in (procedure_at ps p).body) [] m.program m.scoped tt); state = t }) [] [] tree)
   where

@@ -1,4 +1,4 @@
--- A bound by the forward meaning of a program's encoding is one by the meaning of its body.
+-- A bound by the forward meaning of a program's encoding is a bound by the meaning of its body.
 use Rattle.std.proofs.Common.{◌≡◌, ◌<◌, ℕ, sym, ◌∙◌, subst, arith, List, ◌++◌, length}
 use Rattle.std.proofs.lemmas.List.{length-append, length-map, map-append}
 use Rattle.heylo_formula.specs.State.{Env, environment, listed, IsTyped}
@@ -31,7 +31,7 @@ module _ (ps : List TypedProcedure) (R : ℕ → Type 0) (p : TypedProcedure) (p
   abbrev own : List Val
   own = listed (length owned) s
 
-  -- The fresh variables have any values.
+  -- The fresh variables may have any values.
   abbrev all : List Val
   all = own ++ picks added Choices.stop
 

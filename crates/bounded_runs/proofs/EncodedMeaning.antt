@@ -1,5 +1,5 @@
--- The meaning of acts is on the safe side of the forward meaning of their encoding, for every value of the fresh variables
--- and the same choices.
+-- The meaning of acts is on the safe side of the forward meaning of their encoding, for all values
+-- of the fresh variables and the same choices.
 use Rattle.std.proofs.Common.{◌≡◌, ◌≢◌, ◌≤◌, ◌<◌, ◌+◌, ◌==◌, ℕ, refl, sym, ap, ap₂, ◌∙◌, subst, arith, Bool, true, false, cond, List, [], ◌∷◌, ◌++◌, ◌⊎◌, inl, inr, length}
 use Rattle.std.specs.Prelude.{eqb}
 use Rattle.std.proofs.lemmas.Bool.Decides.{eqb_tells}
@@ -45,7 +45,7 @@ use Rattle.bounded_runs.proofs.RunValues.{Safe, safe_refl, safe_sum, safe_scale,
 
 -- ---- Environments with the same first variables
 
--- The first n variables have the same values.
+-- The first `n` variables have the same values.
 abbrev pub Agree : ℕ → Env → Env → Type 0
 Agree n u s = (y : ℕ) → y < n → u y ≡ s y
 
@@ -75,7 +75,7 @@ agree_havoc : (n : ℕ) (types : Types) (xs : List ℕ) (u s : Env) (c : Choices
 agree_havoc n types [] u s c g = g
 agree_havoc n types (x ∷ xs) u s c g = agree_havoc n types xs _ _ (left c) (agree_put n x (fit (types x) (here c)) u s g)
 
--- What sees the first variables alone has the same value.
+-- A formula that sees only the first variables has the same value in both environments.
 module _ (n : ℕ) (v : Visible) (b : Bounded n v) (u s : Env) (g : Agree n u s) where
   value_same : (f : Form) → Sees v f → value f u Choices.stop ≡ value f s Choices.stop
   value_same f o = same_on f u s Choices.stop (λ y h. g y (b y (o y h)))
@@ -87,7 +87,7 @@ module _ (n : ℕ) (v : Visible) (b : Bounded n v) (u s : Env) (g : Agree n u s)
   term_same (Term.truth k) o = ap Truth (holds_same k o)
   term_same (Term.number f) o = ap (λ w. Num (finite_part w)) (value_same f o)
 
--- ---- Values written from a number on
+-- ---- Values of consecutive variables
 
 -- The variables from a number on have these values, in order.
 abbrev write : ℕ → List Val → Env → Env
@@ -165,7 +165,6 @@ gets_value p span (x ∷ xs) (ty ∷ ts) m (v ∷ vs) k u c l o t h =
     step : (m y : ℕ) → suc m + y ≡ m + suc y
     step m y = omega arith
 
--- The copies are one more than those beside the first.
 some_more : (h : Head) → 1 ≤ h.k → h.k ≡ suc (more h)
 some_more h l = go h.k l
   where
@@ -175,7 +174,8 @@ some_more h l = go h.k l
 
 -- ---- The meaning is on the safe side
 
--- What follows the acts, j, is on the safe side of what follows their encoding, k, whatever the fresh variables are.
+-- The post `j` after the acts is on the safe side of the post `k` after their encoding, for all
+-- values of the fresh variables.
 abbrev pub Below : TypedProcedure → (k j : Post) → Type 0
 Below p k j = (u s : Env) (c : Choices) → Agree (length (variables p)) u s → HasTypes (types_of p) s → Safe p.co (j s c) (k u c)
 
@@ -189,7 +189,7 @@ all_own p (x ∷ xs) [] o = absurd o
 all_own p (x ∷ xs) (t ∷ ts) o = (o.0.0, all_own p xs ts o.1)
 
 module _ (ps : List TypedProcedure) (R : ℕ → Type 0) (callees : (n : ℕ) → R n → HasFormulas (procedure_at ps n)) (p : TypedProcedure) where
-  -- Acts that see the procedure's variables alone.
+  -- Acts that see only the procedure's variables.
   module _ (v : Visible) (b : Bounded (length (variables p)) v) where
     part_below : (x : ℕ) (q : Rational × Term) (qs : List (Rational × Term)) → PartsFit (types_of p) x (q ∷ qs) → SeesTerm v q.1 → (k j : Post) → Below p k j → Below p (part x q k) (part x q j)
     part_below x q qs f o k j r u s c g h = safe_scale p.co q.0 _ _ f.0.0 (subst (λ w. Safe p.co (j (put x (term_value q.1 s) s) c) (k (put x w u) c)) (sym (term_same _ v b u s g q.1 o)) (r (put x (term_value q.1 s) u) (put x (term_value q.1 s) s) c (agree_put _ x _ u s g) (put_keeps (types_of p) s x _ h (term_typed (types_of p) (types_of p x) q.1 s f.0.1 h))))
@@ -202,7 +202,7 @@ module _ (ps : List TypedProcedure) (R : ℕ → Type 0) (callees : (n : ℕ) �
     drawn_below x [] f o k j r u s c g h = safe_refl p.co zeroᵛ
     drawn_below x (q ∷ qs) f o k j r u s c g h = parts_below x qs f.1 o.1 k j r (part x q k) (part x q j) (part_below x q qs f o.0 k j r) u s c g h
 
-    -- A loop, with an encoded body e and the meaning of its body.
+    -- A loop with its encoded body `e` and the meaning of its body.
     module _ (h : Head) (source : Acts) (f : IsLoop p.co p h source) (oi : Sees v h.inv) (og : SeesCond v h.guard) (e : Acts) (body : Post → Post) (car : (k j : Post) → Below p k j → Below p (forward e k) (body j)) (k j : Post) (mt : Below p k j) where
       abbrev copied : ℕ → Acts
       copied i = copies p.co h.span h.guard h.inv e i
@@ -210,7 +210,6 @@ module _ (ps : List TypedProcedure) (R : ℕ → Type 0) (callees : (n : ℕ) �
       inv_same : (u s : Env) → Agree (length (variables p)) u s → value h.inv u Choices.stop ≡ value h.inv s Choices.stop
       inv_same u s g = value_same _ v b u s g h.inv oi
 
-      -- A check of the invariant, and what follows it.
       checks : (kind : CheckKind) (u s : Env) (x y : Value) → Agree (length (variables p)) u s → HasTypes (types_of p) s → Safe p.co x y → Safe p.co (checked kind (value h.inv s Choices.stop) x) (checked kind (value h.inv u Choices.stop) y)
       checks kind u s x y g t q = subst (λ i. Safe p.co (checked kind (value h.inv s Choices.stop) x) (checked kind i y)) (sym (inv_same u s g)) (safe_checked p.co kind _ x y (held_value (types_of p) h.inv s f.inv t) q)
 
@@ -223,7 +222,6 @@ module _ (ps : List TypedProcedure) (R : ℕ → Type 0) (callees : (n : ℕ) �
       abbrev at_last : Acts
       at_last = Acts.next (Act.check (must p.co) h.inv h.span) (Acts.next (no_more p.co h.span) Acts.done)
 
-      -- One copy more than i.
       copies_below : (i : ℕ) → Below p (forward (copied (suc i)) k) (body (way p.co body h j i))
       copies_below zero = body_then at_last (way p.co body h j zero) (λ u s c g t. subst (λ w. Safe p.co w (forward at_last k u c)) (inv_same u s g) (must_left p.co _ _))
       copies_below (suc i) = body_then (Acts.next (Act.check (meets p.co) h.inv h.span) (Acts.next (if_holds h.span h.guard (copied (suc i))) Acts.done)) (way p.co body h j (suc i)) (λ u s c g t. checks (meets p.co) u s _ _ g t (once_below (copied (suc i)) (way p.co body h j i) (copies_below i) u s (right c) g t))
@@ -240,7 +238,7 @@ module _ (ps : List TypedProcedure) (R : ℕ → Type 0) (callees : (n : ℕ) �
       loop_below : Below p (forward (encoded_loop p.co (types_of p) h ms e) k) (loop_value p.co (types_of p) h source body j)
       loop_below u s c g t = checks (must p.co) u s _ _ g t (subst (λ w. Safe p.co (blame p.co (types_of p) ms body h j s (right c)) w) (sym (havocs_value p.co h.span (types_of p) ms (tested p.co h e) k u (right c))) (tested_below (havoc (types_of p) ms u (right c)) (havoc (types_of p) ms s (right c)) (after ms (right c)) (agree_havoc _ (types_of p) ms u s (right c) g) (havoc_keeps (types_of p) ms s (right c) t)))
 
-    -- A call: first the fresh inputs are written, then the fresh outputs behind them.
+    -- A call: first the fresh inputs are written, then the fresh outputs after them.
     module _ (span : Span) (xs : List ℕ) (n : ℕ) (es : List Term) (w : ProgramAct p.co ps R p (Act.call xs n es span)) (o : SeesTerms v es) (m : ℕ) (l : length (variables p) ≤ m) (k j : Post) (r : Below p k j) (u s : Env) (c : Choices) (g : Agree (length (variables p)) u s) (h : HasTypes (types_of p) s) where
       abbrev q : TypedProcedure
       q = procedure_at ps n
@@ -314,7 +312,6 @@ module _ (ps : List TypedProcedure) (R : ℕ → Type 0) (callees : (n : ℕ) �
       call_below : Safe p.co (call_value p.co ps xs n es j s c) (forward (encoded_call p.co span m xs q es) k u c)
       call_below = subst (λ x. Safe p.co (call_value p.co ps xs n es j s c) x) (sym (sets_value _ v b span m es _ k u s c l o g)) (subst (λ i. Safe p.co (call_value p.co ps xs n es j s c) (checked (must p.co) i (forward (any_block p.co span first outputs tail) k u1 (right c)))) (sym pre) (safe_checked p.co (must p.co) _ _ _ (given_pre q (callees n w.0) vs vt) blamed_below))
 
-  -- What is visible behind an act is among the procedure's variables too.
   after_bounded : (a : Act) (v : Visible) → ProgramAct p.co ps R p a → Bounded (length (variables p)) v → Bounded (length (variables p)) (shown_by a v)
   after_bounded (Act.set x t span) v w b = shown_bounded (length (variables p)) x v w.0.below b
   after_bounded (Act.draw x qs span) v w b = shown_bounded (length (variables p)) x v w.0.below b

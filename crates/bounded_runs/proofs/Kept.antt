@@ -1,5 +1,5 @@
--- Each step of a program leads to configurations whose states are typed and whose items fit the procedure that runs; so the
--- sums of weak procs are not negative.
+-- Each step of a program leads to configurations whose states have the right types and whose items
+-- belong to the procedure that runs. So the sums of procs with `@wlp` are not negative.
 use Rattle.std.proofs.Common.{◌≡◌, ℕ, refl, sym, ap, ◌∙◌, subst, Bool, true, false, cond, ◌==◌, ◌||◌, List, [], ◌∷◌, ◌++◌}
 use Rattle.std.specs.Prelude.{length, take, set}
 use Prim.Native.Nat.{zero, suc}
@@ -40,7 +40,6 @@ use Rattle.run_machine.proofs.exported.TypedStates.{outputs_typed}
 use Rattle.bounded_runs.proofs.ProgramStates.{append_typed, take_typed, own_set, own_set_all, inputs_of, start_typed, front_same, results}
 use Rattle.bounded_runs.proofs.Monotone.{args_typed, held_value}
 
--- the post reads the values of the inputs and the outputs
 pub post_value : (p : TypedProcedure) → HasFormulas p → (s : List Val) → value p.post (environment s) Choices.stop ≡ given p.post (inputs_of p s ++ outputs_of p s)
 post_value p f s = same_on p.post (environment s) (environment (take (length (p.inputs ++ p.outputs)) s)) Choices.stop (λ y h. front_same _ y s (f.post_over y h)) ∙ ap (given p.post) (sym (results p s))
 
@@ -62,23 +61,24 @@ shown_both x v w h y e = go (x == y) e
     go false k = h y k
 
 module _ (up : Bool) (ps : List TypedProcedure) (R : ℕ → Type 0) (hold : (n : ℕ) → R n → IsBoundedProgram up ps R (procedure_at ps n)) (main : TypedProcedure) where
-  -- The procedure that runs: the last one that was called, or else the one that was started.
+  -- The procedure that runs: the last one that was called, otherwise the one that was started.
   abbrev pub owner : List Frame → TypedProcedure
   owner [] = main
   owner (f ∷ fs) = procedure_at ps f.callee
 
-  -- The procedure that was started ends where no item is left.
+  -- The items of a procedure may end without a return only if it has no caller.
   abbrev pub Ends : List Frame → Type 0
   Ends [] = Unit {0}
   Ends (f ∷ fs) = ⊥
 
-  -- A caller waits.
+  -- There is a caller.
   abbrev pub Waits : List Frame → Type 0
   Waits [] = ⊥
   Waits (f ∷ fs) = Unit {0}
 
-  -- The items of a called procedure end in its return, and those of the one that was started do not return. Each act stands
-  -- where variables of its own are visible, and what follows it reads no more than these and what the act shows.
+  -- The items of a called procedure end with its return; those of the procedure that was started
+  -- have no return. At each act variables of the procedure are visible, and what follows the act
+  -- reads only these and those that the act makes visible.
   abbrev pub ItemsFit : List Frame → Visible → List Item → Type 0
   ItemsFit fs v [] = Ends fs
   ItemsFit fs v (Item.act a ∷ is) = (w : Visible) × ((Sub (interface (owner fs)) w × Sub w v) × ((ProgramAct up ps R (owner fs) a × ScopedAct w a) × ItemsFit fs (shown_by a w) is))
@@ -86,23 +86,24 @@ module _ (up : Bool) (ps : List TypedProcedure) (R : ℕ → Type 0) (hold : (n 
   ItemsFit fs v (Item.out x ty ∷ is) = (IsOwn (owner fs) x × (types_of (owner fs) x ≡ ty)) × ItemsFit fs (shown x v) is
   ItemsFit fs v (Item.back ∷ is) = Waits fs
 
-  -- Each caller has a typed state, its items fit it, its targets are its own variables, and it called one of the procedures.
+  -- Each caller has a state with the right types, items and targets of its procedure, and called
+  -- one of the procedures.
   abbrev pub FramesFit : List Frame → Type 0
   FramesFit [] = Unit {0}
   FramesFit (f ∷ fs) = (IsState (owner fs) f.state × ItemsFit fs everything f.items) × ((Owns (owner fs) f.targets (type_list (procedure_at ps f.callee).outputs) × R f.callee) × FramesFit fs)
 
-  -- A configuration to which steps of the program lead.
+  -- A configuration that steps of the program reach.
   pub record IsConfig (c : Config) : Type 0 where
     pub frames : FramesFit c.frames
     pub items : ItemsFit c.frames everything c.items
     pub state : IsState (owner c.frames) c.state
 
-  -- Outcomes of a step: their weights are not negative.
+  -- The outcomes of a step: no weight is negative.
   abbrev pub AllNext : Outcomes → Type 0
   AllNext [] = Unit {0}
   AllNext (x ∷ xs) = ((zeroʳ ≤ʳ x.0) × IsConfig x.1) × AllNext xs
 
-  -- ---- Items of which more is visible, and items behind others
+  -- ---- Items with more visible variables, and items after others
 
   pub items_more : (fs : List Frame) (v w : Visible) → Sub v w → (is : List Item) → ItemsFit fs v is → ItemsFit fs w is
   items_more fs v w h [] g = g
@@ -143,7 +144,7 @@ module _ (up : Bool) (ps : List TypedProcedure) (R : ℕ → Type 0) (hold : (n 
   sure_fits : (c : Config) → IsConfig c → AllNext (sure c)
   sure_fits c h = ((zero-≤ʳ-one, h), tt)
 
-  -- the items are one item and these
+  -- The items are one item and then `is`.
   module _ (is : List Item) (c : Config) (gf : FramesFit c.frames) (st : IsState (owner c.frames) c.state) where
     moves : (v : Visible) (is : List Item) → ItemsFit c.frames v is → (s : List Val) → IsState (owner c.frames) s → IsConfig (moved c is s)
     moves v is g s h = record { frames = gf; items = items_more c.frames v everything (λ y e. refl) is g; state = h }
@@ -208,7 +209,7 @@ module _ (up : Bool) (ps : List TypedProcedure) (R : ℕ → Type 0) (hold : (n 
   step_kept (Item.out x ty) is c gf v g st d = sure_fits _ (sets_fit is c gf st _ g.1 x ty (value_of d) g.0.0 g.0.1)
   step_kept Item.back is c gf v g st d = back_kept is c c.frames gf g st
 
-  -- ---- Sums of weak programs
+  -- ---- Sums of programs with `@wlp`
 
   ended_from_zero : (fits : HasFormulas main) (fs : List Frame) (is : List Item) (s : List Val) → ItemsFit fs everything is → IsState (owner fs) s → zeroᵛ ≤ᵛ ended false main.post is s
   ended_from_zero fits [] [] s g st = subst (λ v. zeroᵛ ≤ᵛ v) (sym (post_value main fits s)) (post_held main fits s st)

@@ -1,4 +1,5 @@
--- Bounds of small programs, one for each kind of act, as the law of encodings gives them from their goals.
+-- Bounds of small programs, one for each kind of act, which the law of encodings derives from their
+-- goals.
 use Rattle.std.proofs.Common.{◌≡◌, refl, sym, subst, ℕ, Bool, true, false, List, [], ◌∷◌, arith}
 use Rattle.std.specs.Prelude.{Some, pos, if◌then◌else◌}
 use Rattle.heyvl_num.specs.Rational.{Rational, zeroʳ, oneʳ, halfʳ, ratio, leqʳ, negʳ, ◌+ʳ◌, ◌*ʳ◌, ◌-ʳ◌}
@@ -23,7 +24,7 @@ use Rattle.bounded_runs.proofs.SmallPrograms.{nowhere, only, flag_named, one_for
 
 -- ---- A file with one procedure
 
--- A procedure that calls none but itself reaches none but itself.
+-- A procedure that calls only itself reaches only itself.
 reaches_itself : (ps : List TypedProcedure) → ((q : ℕ) → Calls ps 0 q → q ≡ 0) → (n q : ℕ) → n ≡ 0 → Reaches ps n q → q ≡ 0
 reaches_itself ps alone _ _ e (Reaches.directly n q c) = alone q (subst (λ m. Calls ps m q) e c)
 reaches_itself ps alone _ _ e (Reaches.onward n m q c w) = reaches_itself ps alone m q (alone m (subst (λ k. Calls ps k m) e c)) w
@@ -72,7 +73,8 @@ one_half = record { holds = refl }
 tossing_is_bounded : Bound (tossing ∷ []) 0
 tossing_is_bounded = bound_of tossing tossing_meets refl ((λ s c t. one_half), tt) (λ q e. absurd (cc))
 
--- ---- A toss: the output is true with the probability 1/2 where the input holds, and else with 2, which counts as 1
+-- ---- A toss: the output is true with the probability 1/2 if the input holds, and otherwise with
+-- 2, which counts as 1
 
 abbrev chance : Form
 chance = Form.select (Cond.flag 0) half_form two_form
@@ -115,7 +117,7 @@ weighing_meets = record {
   numbered = refl;
 }
 
--- The weight by the input, and the rest of 1.
+-- The weight by the input, and its difference to 1.
 abbrev weight_of : Bool → Rational
 weight_of b = finite_part (minᵛ (if b then finite halfʳ else finite (ratio (pos 2) 1)) oneᵛ)
 

@@ -1,4 +1,5 @@
--- Bounds of small programs with choices, upward and downward, as the law of encodings gives them from their goals.
+-- Bounds of small programs with choices, upward and downward, which the law of encodings derives
+-- from their goals.
 use Rattle.std.proofs.Common.{refl, ℕ, Bool, true, false, [], ◌∷◌, arith}
 use Rattle.std.specs.Prelude.{Some, not, ◌||◌, if◌then◌else◌}
 use Rattle.heyvl_num.specs.Rational.{zeroʳ, oneʳ, halfʳ, ratio, leqʳ, ◌+ʳ◌, ◌*ʳ◌}
@@ -68,7 +69,7 @@ greater_is_one = record { holds = refl }
 may_raise_is_bounded : Bound (may_raise ∷ []) 0
 may_raise_is_bounded = bound_of may_raise may_raise_meets refl ((λ s c t. greater_is_one), tt) (λ q e. absurd (cc))
 
--- ---- A choice in a weak proc: one of two flags is raised
+-- ---- A choice in a proc with `@wlp`: one of two flags is raised
 
 abbrev one_raised : Form
 one_raised = Form.iverson (Cond.or (Cond.flag 0) (Cond.flag 1))
@@ -108,7 +109,7 @@ must_raise_meets = record {
   numbered = refl;
 }
 
--- Whatever the first flag is, where the second is raised.
+-- If the second flag is raised, for both values of the first.
 smaller_is_one : (b : Bool) → oneᵛ ≤ᵛ minᵛ oneᵛ (if b || true then oneᵛ else zeroᵛ)
 unfolding minᵛ leqᵛ leqʳ oneᵛ oneʳ ratio
 smaller_is_one true = record { holds = refl }
@@ -148,7 +149,7 @@ guessing_meets = record {
   numbered = refl;
 }
 
--- Whatever is guessed, for each side of the coin apart.
+-- For every guess, separately for each side of the coin.
 guessed : (a b : Bool) → (finite halfʳ *ᵛ (if agree true a then oneᵛ else zeroᵛ)) +ᵛ (finite halfʳ *ᵛ (if agree false b then oneᵛ else zeroᵛ)) ≤ᵛ oneᵛ
 unfolding halfʳ leqᵛ leqʳ ◌+ᵛ◌ ◌*ᵛ◌ zeroᵛ oneᵛ zeroʳ oneʳ ◌+ʳ◌ ◌*ʳ◌ ratio
 guessed true true = record { holds = refl }
@@ -166,16 +167,16 @@ seeing = Tree.node Decision.none (Forest.trees (decided true) (Forest.trees (dec
     decided : Bool → Tree
     decided b = Tree.node (Decision.given (Truth b)) Forest.no_trees
 
--- From a state in which both flags are raised, too, it guesses right: no smaller bound would do.
+-- It guesses right also from a state in which both flags are raised: no smaller bound holds.
 seeing_guesses_right : oneᵛ ≤ᵛ sum_of true guessing.post (runs (guessing ∷ []) 2 (begin (guessing ∷ []) 0 (Truth true ∷ Truth true ∷ [])) seeing)
 unfolding runs weighted_sum scaled halfʳ leqᵛ leqʳ ◌+ᵛ◌ ◌*ᵛ◌ zeroᵛ oneᵛ zeroʳ oneʳ ◌+ʳ◌ ◌*ʳ◌ ratio
 seeing_guesses_right = record { holds = refl }
 
--- After any number of steps, it is right with the probability 1 at most.
+-- After any number of steps, its probability of being right is at most 1.
 seeing_is_bounded : (n : ℕ) → sum_of true guessing.post (runs (guessing ∷ []) n (begin (guessing ∷ []) 0 (Truth true ∷ Truth true ∷ [])) seeing) ≤ᵛ oneᵛ
 seeing_is_bounded n = guessing_is_bounded (Truth true ∷ Truth true ∷ []) (refl, (refl, refl)) n seeing
 
--- ---- Any value in a weak proc: of a flag with any value and its opposite, one is raised
+-- ---- Any value in a proc with `@wlp`: of a flag with any value and its opposite, one is raised
 
 abbrev opposing : TypedProcedure
 opposing = record nobody {

@@ -1,4 +1,5 @@
--- Bounds of loops and of a recursion, which toss coins, as the law of encodings gives them from their goals.
+-- Bounds of loops and of a recursion, which toss coins, derived by the law of encodings from their
+-- goals.
 use Rattle.std.proofs.Common.{◌≡◌, ◌≢◌, ◌⊎◌, inl, inr, refl, sym, ◌||◌, ℕ, ◌==◌, Bool, true, false, [], ◌∷◌, pos, arith}
 use Rattle.std.specs.Prelude.{Some, None, eqb, if◌then◌else◌}
 use Rattle.std.proofs.lemmas.Bool.Decides.{eqb_tells}
@@ -65,7 +66,8 @@ tossing_on_meets = record {
   numbered = refl;
 }
 
--- Whatever the flag is before the test: the invariant is at least what the copy of the body gives.
+-- For both values of the flag before the test: the invariant is at least the value of the copy of
+-- the body.
 inductive : (b : Bool) → maxᵛ twoᵛ (covalidateᵛ (coimpliesᵛ (if b then twoᵛ else zeroᵛ) (if b then ((finite halfʳ *ᵛ maxᵛ twoᵛ (coimpliesᵛ infinite zeroᵛ)) +ᵛ (finite halfʳ *ᵛ maxᵛ zeroᵛ (coimpliesᵛ infinite zeroᵛ))) +ᵛ oneᵛ else zeroᵛ))) ≤ᵛ twoᵛ
 unfolding maxᵛ coimpliesᵛ covalidateᵛ is_zeroʳ halfʳ leqᵛ leqʳ ◌+ᵛ◌ ◌*ᵛ◌ zeroᵛ oneᵛ zeroʳ oneʳ ◌+ʳ◌ ◌*ʳ◌ ratio
 inductive true = record { holds = refl }
@@ -74,7 +76,7 @@ inductive false = record { holds = refl }
 tossing_on_is_bounded : Bound (tossing_on ∷ []) 0
 tossing_on_is_bounded = bound_of tossing_on tossing_on_meets refl ((λ s c t. inductive (truth_of (fit Ty.Bool (here (right c))))), tt) (λ q e. absurd (cc))
 
--- ---- A loop in a weak proc: where the coin shows true it never ends, which counts 1
+-- ---- A loop in a proc with `@wlp`: if the coin shows true it never terminates, which counts 1
 
 abbrev tossed : Form
 tossed = Form.iverson (Cond.flag 0)
@@ -110,7 +112,7 @@ staying_meets = record {
   numbered = refl;
 }
 
--- A copy of the body from a flag that is raised, and from one that isn't.
+-- A copy of the body from a flag that is raised, and from one that is not.
 staying_main : finite halfʳ ≤ᵛ (finite halfʳ *ᵛ minᵛ oneᵛ (validateᵛ (impliesᵛ oneᵛ (minᵛ oneᵛ (impliesᵛ zeroᵛ zeroᵛ))))) +ᵛ (finite halfʳ *ᵛ minᵛ zeroᵛ (validateᵛ (impliesᵛ zeroᵛ zeroᵛ)))
 unfolding minᵛ impliesᵛ validateᵛ halfʳ leqᵛ leqʳ ◌+ᵛ◌ ◌*ᵛ◌ zeroᵛ oneᵛ zeroʳ oneʳ ◌+ʳ◌ ◌*ʳ◌ ratio
 staying_main = record { holds = refl }
@@ -156,12 +158,12 @@ tossing_again_meets = record {
   numbered = refl;
 }
 
--- The pre of the call is shown, and nothing follows it.
+-- The pre of the call is asserted, and nothing follows it.
 called_again : ((finite halfʳ *ᵛ maxᵛ twoᵛ (covalidateᵛ (coimpliesᵛ zeroᵛ zeroᵛ))) +ᵛ (finite halfʳ *ᵛ zeroᵛ)) +ᵛ oneᵛ ≤ᵛ twoᵛ
 unfolding maxᵛ coimpliesᵛ covalidateᵛ is_zeroʳ halfʳ leqᵛ leqʳ ◌+ᵛ◌ ◌*ᵛ◌ zeroᵛ oneᵛ zeroʳ oneʳ ◌+ʳ◌ ◌*ʳ◌ ratio
 called_again = record { holds = refl }
 
--- It calls none but itself.
+-- It calls only itself.
 calls_itself : (q : ℕ) → Calls (tossing_again ∷ []) 0 q → q ≡ 0
 calls_itself q e = go (eqb_tells 0 q)
   where

@@ -1,4 +1,4 @@
--- The values of a loop under way, by its number of copies.
+-- The values of a loop under way, by its number of remaining copies.
 use Rattle.std.proofs.Common.{◌≡◌, ◌∙◌, ℕ, sym, subst, Bool, true, false, List, ◌⊎◌, inl, inr}
 use Prim.Native.Nat.{zero, suc}
 use Rattle.heyvl_num.specs.Value.{Value}
@@ -18,27 +18,28 @@ use Rattle.bounded_runs.proofs.ScopedMeaning.{Respects, blamed_on, acts_on}
 use Rattle.bounded_runs.proofs.ProgramStates.{same_refl, keep, havoc-keep, after-keep, havoc_keeps}
 use Rattle.bounded_runs.proofs.Monotone.{both, behind, Under, under_acts, Begun, begun_acts, begun_way, held_value}
 
--- what covers, closed on the safe side
+-- A covering property of values, closed on the safe side.
 pub record Cover (up : Bool) (P : Value → Type 0) : Type 0 where
   pub closed : (x y : Value) → Safe up x y → P x → P y
   pub at_worst : P (worst up)
 
--- some choice makes it hold
+-- `P` holds of the value for some choices.
 pub record Some (P : Value → Type 0) (f : Choices → Value) : Type 0 where
   pub choices : Choices
   pub covers : P (f choices)
 
--- the value at the test of a loop under way: behind so many copies, or the blame
+-- The value at the test of a loop under way: with the given number of copies, or the meaning after
+-- the assertion of the invariant.
 abbrev pub turn_value : Bool → Types → (Post → Post) → Head → Acts → Post → ℕ → Post
 turn_value up types body h b k j s c = checked (must up) (way up body h k j s (left c)) (blame up types (modified h.scope b) body h k s (right c))
 
--- a choice that shows the implication to fail in this state
+-- Choices that show the implication of the invariant to fail in this state.
 pub record Fails (up : Bool) (types : Types) (body : Post → Post) (h : Head) (b : Acts) (k : Post) (s : Env) : Type 0 where
   pub choices : Choices
   pub fails : blame up types (modified h.scope b) body h k s choices ≡ worst up
 
 module _ (up : Bool) (ps : List TypedProcedure) (R : ℕ → Type 0) (hold : (n : ℕ) → R n → IsBoundedProgram up ps R (procedure_at ps n)) (p : TypedProcedure) (b : Acts) (h : Head) (fits : IsLoop up p h b) (program : Program up ps R p b) (k : Post) (begun_k : Begun up ps R hold p k) where
-  -- what the body and the rest give at the loop's test, with the most copies
+  -- The value of the body and the rest at the loop's test, with the most copies.
   abbrev full : Post
   full = once (meaning up (types_of p) ps b) h k (way up (meaning up (types_of p) ps b) h k (more h))
 

@@ -1,4 +1,4 @@
--- Of a loop's scope, the body changes the modified variables alone.
+-- Of a loop's scope, the body changes only the modified variables.
 use Rattle.std.proofs.Common.{◌≡◌, ◌∙◌, ℕ, refl, sym, ap, arith, Bool, true, false, cond, ◌==◌, ◌||◌, List, [], ◌∷◌, ◌⊎◌, inl, inr}
 use Rattle.heyvl_acts.specs.Acts.{Act, Acts, Arms}
 use Rattle.heyvl_acts.specs.ModifiedVariables.{is_target_of, is_target_of_act, is_target_of_arms, modified}
@@ -24,7 +24,6 @@ self x = grind arith
 
 -- ---- The modified variables of a scope
 
--- A target of the scope is among them.
 modified_in : (scope : List ℕ) (b : Acts) (x : ℕ) → is_target_of x b ≡ true → among scope x ≡ true → In x (modified scope b)
 modified_in [] b x h k = absurd (cc)
 modified_in (y ∷ ys) b x h k = go (is_target_of y b) refl (or_true (y == x) (among ys x) k) (modified_in ys b x h)
@@ -35,7 +34,7 @@ modified_in (y ∷ ys) b x h k = go (is_target_of y b) refl (or_true (y == x) (a
     go false e (inl q) ih = absurd (let f : true ≡ false = sym h ∙ ap (λ z. is_target_of z b) (sym (equal_of y x q)) ∙ e in cc)
     go false e (inr q) ih = ih q
 
--- Each of them is a target.
+-- `P` holds of each variable of the list.
 abbrev AllOf : (ℕ → Type 0) → List ℕ → Type 0
 AllOf P [] = Unit {0}
 AllOf P (m ∷ ms) = P m × AllOf P ms
@@ -52,7 +51,7 @@ all_in : (v : Visible) (ms xs : List ℕ) → AllOf (λ m. v m ≡ true → In m
 all_in v ms [] h = tt
 all_in v ms (x ∷ xs) h = (h.0, all_in v ms xs h.1)
 
--- ---- Of the scope, a body changes them alone
+-- ---- Of the scope, a body changes only the modified variables
 
 module _ (scope : List ℕ) (whole : Acts) where
   -- The targets of a part of the body are targets of the whole.

@@ -1,5 +1,5 @@
--- Meanings are monotone in what follows, up to other choices and an escape; and they are on the safe side of a run that has
--- not ended.
+-- Meanings are monotone in what follows, up to other choices and a broken contract. They are also
+-- on the safe side of a run that has not terminated.
 use Rattle.std.proofs.Common.{◌≡◌, ◌∙◌, ℕ, refl, sym, ap, subst, Bool, true, false, cond, List, [], ◌∷◌, ◌++◌, ◌⊎◌, inl, inr}
 use Rattle.std.specs.Prelude.{length}
 use Prim.Native.Nat.{zero, suc}
@@ -44,7 +44,7 @@ both c d = Choices.choose (Truth false) c d
 abbrev pub behind : Choices → Choices
 behind c = Choices.choose (Truth false) Choices.stop c
 
--- some choice is on the safe side
+-- For some choices the value is on the safe side.
 pub record Found (up : Bool) (x : Value) (f : Choices → Value) : Type 0 where
   pub choices : Choices
   pub safe : Safe up x (f choices)
@@ -58,7 +58,7 @@ pub then_found : {B X Z : Type 0} → B ⊎ X → (X → Z) → B ⊎ Z
 then_found (inl b) f = inl b
 then_found (inr x) f = inr (f x)
 
--- ---- Contracts that hold are formulas, and small in a weak program
+-- ---- Contracts that hold are formulas, and at most 1 in a program with `@wlp`
 
 pub args_typed : (p : TypedProcedure) (ts : List Ty) (es : List Term) (s : Env) → ArgumentsFit p ts es → HasTypes (types_of p) s → IsTyped ts (evaluate es s)
 args_typed p [] [] s f h = refl
@@ -69,7 +69,6 @@ args_typed p (t ∷ ts) (e ∷ es) s f h = (term_typed (types_of p) t e s f.0 h,
 pub held_value : (types : Types) (f : Form) (s : Env) → IsHeld types f → HasTypes types s → zeroᵛ ≤ᵛ value f s Choices.stop
 held_value types f s h e = nonnegative_value types f s Choices.stop h.0 e
 
--- a formula is on the safe side of a run that has not ended
 pub begun_value : (up : Bool) (xs : List Variable) (f : Form) (s : Env) → IsHeld (types_in (type_list xs)) f → IsOver (length xs) f → (up ≡ false → IsSmall (type_list xs) f) → TypedBelow xs s → Safe up (begun up) (value f s Choices.stop)
 begun_value up xs f s h o k e = subst (λ v. Safe up (begun up) v) (sym (same_on f s (environment (listed (length xs) s)) Choices.stop (λ y i. listed_same (length xs) s y (o y i)))) (at up k)
   where
@@ -83,7 +82,7 @@ given_pre q f vs h = held_value (types_in (type_list q.inputs)) q.pre _ f.pre (e
 pub given_post : (q : TypedProcedure) → HasFormulas q → (vs ws : List Val) → IsTyped (type_list q.inputs) vs → IsTyped (type_list q.outputs) ws → zeroᵛ ≤ᵛ given q.post (vs ++ ws)
 given_post q f vs ws h k = held_value (types_in (type_list (q.inputs ++ q.outputs))) q.post _ f.post (env_typed (type_list (q.inputs ++ q.outputs)) (vs ++ ws) (append_typed q.inputs q.outputs vs ws h k))
 
--- ---- Under: the same with another post
+-- ---- Under: the same meaning with another post
 
 abbrev pub Under : (up : Bool) (p : TypedProcedure) (B : Type 0) (v : Visible) (ms : List ℕ) (s : Env) (k l : Post) → Type 0
 Under up p B v ms s k l = (t : Env) (c : Choices) → Same p v ms s t → B ⊎ Found up (k t c) (l t)
@@ -150,7 +149,7 @@ module _ (up : Bool) (ps : List TypedProcedure) (R : ℕ → Type 0) (hold : (n 
       under_arms Arms.no_arm m w k l u x y v t c e = v t c e
       under_arms (Arms.arm g b more) m w k l u x y v t c e = by_test up B (holds g t Choices.stop) _ _ _ _ (behind_found up _ _ (under_acts b m.1.0 w.0 k l u t (right c) e)) (behind_found up _ _ (under_arms more m.1.1 w.1 k l u x y v t (right c) e))
 
-  -- ---- Begun: on the safe side of a run that has not ended
+  -- ---- Begun: on the safe side of a run that has not terminated
 
   abbrev pub Begun : Post → Type 0
   Begun k = (s : Env) (c : Choices) → HasTypes (types_of p) s → Safe up (begun up) (k s c)

@@ -1,4 +1,4 @@
--- What is known of a procedure that is a program: no reason speaks against it.
+-- Conclusions from the fact that a procedure is a program.
 use Rattle.std.proofs.Common.{◌≡◌, refl, Bool, true, false, not, ◌||◌, List, [], ◌∷◌}
 use Rattle.std.specs.Prelude.{if◌then◌else◌, Option, Some, None}
 use Rattle.heyvl_places.specs.declared.spans.Span.{Span}
@@ -8,7 +8,8 @@ use Rattle.heyvl_acts.specs.Places.{in_order}
 use Rattle.heyvl_acts.specs.Program.{IsProgram, Reason, breaks, first_break, reason_of_break}
 use Rattle.heyvl_acts.specs.Rules.{Each}
 
--- It is a coproc or a weak proc, its post has no binder, and no act breaks it.
+-- The procedure is a coproc or has `@wlp`, its post has no binder, and no act breaks the conditions
+-- on programs.
 pub record HasNoReason (p : TypedProcedure) : Type 0 where
   pub kind : p.co || p.weak ≡ true
   pub plain : has_binder p.post ≡ false
@@ -27,7 +28,6 @@ no_reason p h = go p.body h
     go None h = absurd (cc)
     go (Some acts) h = parts acts (p.co || p.weak) (has_binder p.post) (first_break p.co (in_order acts)) refl refl refl h
 
--- Where there is no first act that breaks it, none does.
 pub none_breaks : (co : Bool) (acts : List Act) → first_break co acts ≡ None → Each (λ a. breaks co a ≡ None) acts
 none_breaks co [] h = tt
 none_breaks co (a ∷ rest) h = go (breaks co a) refl (none_breaks co rest)

@@ -1,5 +1,6 @@
--- Typed states of a procedure: a variable that is its own takes a value, a call begins and returns, and variables take any
--- values; and environments that differ, of the visible variables, at some alone.
+-- States of a procedure keep their types when one of its variables takes a value, when a call
+-- begins and returns, and when variables take any values. Environments are also compared that
+-- differ only in some of the visible variables.
 use Rattle.std.proofs.Common.{◌≡◌, ◌≢◌, ◌≤◌, ◌<◌, ℕ, refl, sym, ap, ap₂, ◌∙◌, subst, arith, Bool, true, false, cond, ◌==◌, ◌⊎◌, inl, inr, List, [], ◌∷◌, ◌++◌}
 use Rattle.std.specs.Prelude.{length, get_or, set, take, drop, eqb}
 use Rattle.std.proofs.lemmas.Bool.Decides.{eqb_tells}
@@ -22,9 +23,8 @@ use Rattle.run_machine.proofs.exported.TypedStates.{types_length, widened, defau
 use Rattle.bounded_runs.specs.internal.Contracts.{havoc, after, picks, past_picks, put_all}
 use Rattle.bounded_runs.specs.internal.Programs.{In, AllIn, Owns}
 
--- ---- Lists of variables and typed states
+-- ---- Lists of variables and states with the right types
 
--- a typed list has a value for each variable
 pub as_long : (xs : List Variable) (s : List Val) → IsTyped (type_list xs) s → length s ≡ length xs
 as_long [] s h = ap length h
 as_long (x ∷ xs) [] h = absurd h
@@ -67,7 +67,7 @@ inputs_of p s = take (length p.inputs) s
 pub inputs_set : (p : TypedProcedure) (x : ℕ) (v : Val) (s : List Val) → IsOwn p x → inputs_of p (set s x v) ≡ inputs_of p s
 inputs_set p x v s o = take_set (length p.inputs) x v s o.no_input
 
--- what a call's return does to a caller
+-- A caller's state after a call's return.
 pub record Assigned (p : TypedProcedure) (xs : List ℕ) (vs : List Val) (s : List Val) : Type 0 where
   pub typed : IsState p (set_all xs vs s)
   pub inputs : inputs_of p (set_all xs vs s) ≡ inputs_of p s
@@ -100,7 +100,6 @@ take_append (x ∷ xs) (v ∷ vs) ws h = ap (λ u. v ∷ u) (take_append xs vs w
 pub inputs_start : (p : TypedProcedure) (vs : List Val) → IsTyped (type_list p.inputs) vs → inputs_of p (first_state p vs) ≡ vs
 inputs_start p vs h = take_append p.inputs vs _ h
 
--- below their number, an environment is that of the first values
 get_take : (n y : ℕ) (s : List Val) → y < n → get_or (take n s) y (Truth false) ≡ get_or s y (Truth false)
 get_take zero y s h = absurd (omega arith)
 get_take (suc n) y [] h = refl
@@ -119,7 +118,6 @@ take_both [] ys s = refl
 take_both (x ∷ xs) ys [] = take_none (length ys)
 take_both (x ∷ xs) ys (v ∷ s) = ap (λ l. v ∷ l) (take_both xs ys s)
 
--- the values that a post reads
 pub results : (p : TypedProcedure) (s : List Val) → inputs_of p s ++ outputs_of p s ≡ take (length (p.inputs ++ p.outputs)) s
 results p s = take_both p.inputs p.outputs s
 
@@ -186,13 +184,13 @@ pub picks_typed : (ts : List Ty) (c : Choices) → IsTyped ts (picks ts c)
 picks_typed [] c = refl
 picks_typed (t ∷ ts) c = (fit_has t (here c), picks_typed ts (left c))
 
--- ---- Two environments that differ, of the visible variables, at these alone, the second one typed
+-- ---- Two environments that differ only in these of the visible variables, the second one with the
+-- right types
 
 pub record Same (p : TypedProcedure) (v : Visible) (ms : List ℕ) (s t : Env) : Type 0 where
   pub same : (c : Choices) (y : ℕ) → v y ≡ true → havoc (types_of p) ms s c y ≡ havoc (types_of p) ms t c y
   pub typed : HasTypes (types_of p) t
 
--- what a variable is after a havoc depends on what it was
 pub havoc-at : (types : Types) (ms : List ℕ) (s t : Env) (c : Choices) (y : ℕ) → s y ≡ t y → havoc types ms s c y ≡ havoc types ms t c y
 havoc-at types [] s t c y e = e
 havoc-at types (m ∷ ms) s t c y e = havoc-at types ms _ _ (left c) y (ap (λ w. cond (m == y) (fit (types m) (here c)) w) e)

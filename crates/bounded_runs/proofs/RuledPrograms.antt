@@ -1,4 +1,4 @@
--- What the static rules give of a program, act by act, laid out along its acts.
+-- The static rules of a program, act by act, along its acts.
 use Rattle.std.proofs.Common.{◌≡◌, ◌<◌, ℕ, refl, sym, ◌∙◌, arith, Bool, true, false, ◌||◌, ◌==◌, List, [], ◌∷◌, length}
 use Rattle.std.specs.Prelude.{if◌then◌else◌, Some, None}
 use Prim.Native.Nat.{suc}
@@ -19,9 +19,9 @@ use Rattle.bounded_runs.specs.internal.Programs.{Owns, Program, ProgramAct, Prog
 use Rattle.heyvl_acts.proofs.exported.Each.{each_first, each_second}
 use Rattle.bounded_runs.proofs.ModifiedVariables.{modified_within}
 
--- ---- What is known of each act
+-- ---- Conditions on each act
 
--- The called procedure is one of which R holds.
+-- A called procedure satisfies `R`.
 abbrev pub CallsOnly : (ℕ → Type 0) → Act → Type 0
 CallsOnly R (Act.set x t span) = Unit {0}
 CallsOnly R (Act.draw x qs span) = Unit {0}
@@ -49,7 +49,7 @@ HasSmallInvariant p (Act.validate co span) = Unit {0}
 HasSmallInvariant p (Act.loop h b) = IsAtMostOne (type_list (variables p)) h.inv
 HasSmallInvariant p (Act.call xs q es span) = Unit {0}
 
--- What the rules say of an act of a program that calls procedures of which R holds.
+-- The static rules on an act of a program whose calls are of procedures that satisfy `R`.
 pub record IsRuled (ps : List TypedProcedure) (R : ℕ → Type 0) (p : TypedProcedure) (a : Act) : Type 0 where
   pub targets : HasOwnTargets p a
   pub typed : IsTypedAct ps p a
@@ -60,14 +60,12 @@ pub record IsRuled (ps : List TypedProcedure) (R : ℕ → Type 0) (p : TypedPro
   pub calls : CallsOnly R a
   pub small : p.co ≡ false → HasSmallInvariant p a
 
--- The rules are given one by one for all acts, and so all together for each.
 pub all_ruled : (ps : List TypedProcedure) (R : ℕ → Type 0) (p : TypedProcedure) (acts : List Act) → Each (HasOwnTargets p) acts → Each (IsTypedAct ps p) acts → Each WeighsOne acts → Each (FollowsDirection ps p) acts → Each (LoopsMeet p) acts → Each (λ a. breaks p.co a ≡ None) acts → Each (CallsOnly R) acts → (p.co ≡ false → Each (HasSmallInvariant p) acts) → Each (IsRuled ps R p) acts
 all_ruled ps R p [] a b c d e f g h = tt
 all_ruled ps R p (x ∷ rest) a b c d e f g h = (record { targets = a.0; typed = b.0; weights = c.0; directions = d.0; loops = e.0; unbroken = f.0; calls = g.0; small = λ k. (h k).0 }, all_ruled ps R p rest a.1 b.1 c.1 d.1 e.1 f.1 g.1 (λ k. (h k).1))
 
 -- ---- One act
 
--- The targets of a call.
 owned : (p : TypedProcedure) (xs : List ℕ) (ts : List Ty) → Each (IsOwn p) xs → TargetsFit p xs ts → Owns p xs ts
 owned p [] [] h k = tt
 owned p [] (t ∷ ts) h k = absurd k
@@ -78,7 +76,6 @@ drawn : (types : ℕ → Ty) (x : ℕ) (qs : List (Rational × Term)) → DrawFi
 drawn types x [] h = absurd h
 drawn types x (q ∷ qs) h = h
 
--- What is among numbers below a bound is below it.
 below : (from n : ℕ) (xs : List ℕ) (y : ℕ) → GrowBelow from n xs → among xs y ≡ true → y < n
 below from n [] y g h = absurd (cc)
 below from n (x ∷ xs) y g h = go (x == y) refl (below (suc x) n xs y g.1)
@@ -92,7 +89,6 @@ agreed true d h = h
 agreed false true h = absurd (cc)
 agreed false false h = refl
 
--- A pick that breaks nothing is of the procedure's direction.
 picked : (co d : Bool) (span : Span) → (if agree co d then None else Some span) ≡ None → d ≡ co
 picked co d span h = go (agree co d) refl
   where
@@ -103,7 +99,6 @@ picked co d span h = go (agree co d) refl
 -- ---- All acts
 
 module _ (ps : List TypedProcedure) (R : ℕ → Type 0) (p : TypedProcedure) (kind : p.co || p.weak ≡ true) where
-  -- A procedure with rewards is a coproc.
   upward : p.weak ≡ false → p.co ≡ true
   upward h = go p.co refl
     where

@@ -16,7 +16,7 @@ use Rattle.run_machine.specs.Sums.{begun}
 use Rattle.run_machine.proofs.exported.Equations.{one_times}
 use Rattle.bounded_runs.specs.internal.Contracts.{worst}
 
--- the first is on the safe side of the second: true, at most; false, at least
+-- The first value is on the safe side of the second: at most if true, at least if false.
 abbrev pub Safe : Bool → Value → Value → Type 0
 Safe true x y = x ≤ᵛ y
 Safe false x y = y ≤ᵛ x
@@ -55,7 +55,7 @@ pub compares_safe : (up : Bool) (x y : Value) → Compares up y x → Safe up x 
 compares_safe true x y h = h
 compares_safe false x y h = h
 
--- ---- Checks of a value that isn't negative
+-- ---- Checks of a value that is not negative
 
 pub safe_checked : (up : Bool) (kind : CheckKind) (f x y : Value) → zeroᵛ ≤ᵛ f → Safe up x y → Safe up (checked kind f x) (checked kind f y)
 safe_checked true CheckKind.Assert f x y p h = min_mono f f x y (≤ᵛ_refl f) h
@@ -76,7 +76,8 @@ pub safe_blamed : (up : Bool) (i x y : Value) → zeroᵛ ≤ᵛ i → Safe up x
 safe_blamed true i x y p h = covalidate_up (coimpliesᵛ i x) (coimpliesᵛ i y) (coimplies_from i x p) (coimplies_up i x y p h)
 safe_blamed false i x y p h = validate_up (impliesᵛ i y) (impliesᵛ i x) (implies_mono i i y x (≤ᵛ_refl i) h)
 
--- either the value is on the safe side of i, and the blame adds nothing, or the blame is the worst value
+-- Either `y` is on the safe side of `i`, and its assumption adds nothing to an assertion, or the
+-- assumption has the worst value.
 abbrev pub Decided : Bool → Value → Value → Type 0
 Decided up i y = (Safe up y i × ((x : Value) → Safe up (begun up) x → checked (must up) x (blamed up i y) ≡ x)) ⊎ (blamed up i y ≡ worst up)
 
@@ -122,7 +123,6 @@ pub must_right : (up : Bool) (x y : Value) → Safe up y (checked (must up) x y)
 must_right true x y = max_above_right x y
 must_right false x y = min_below_right x y
 
--- the better of the two is safe from both bounds
 pub meets_least : (up : Bool) (b x y : Value) → Safe up b x → Safe up b y → Safe up b (checked (meets up) x y)
 meets_least true b x y h k = min_greatest x y b h k
 meets_least false b x y h k = max_least x y b h k
@@ -147,9 +147,9 @@ pub meets_two : (up : Bool) (x y : Value) → (checked (meets up) x y ≡ x) ⊎
 meets_two true x y = min_two x y
 meets_two false x y = max_two x y
 
--- ---- What a sum is covered by
+-- ---- Sums and the values that cover them
 
--- true: the sum is at most the reward so far and the value; false: it is at least the value
+-- The sum is at most the reward so far plus the value if true, at least the value if false.
 abbrev pub Covered : Bool → Value → Value → Value → Type 0
 Covered true x r v = x ≤ᵛ r +ᵛ v
 Covered false x r v = v ≤ᵛ x
@@ -170,7 +170,7 @@ pub covered_start : (up : Bool) (x v : Value) → Covered up x zeroᵛ v → Saf
 covered_start true x v h = subst (λ u. x ≤ᵛ u) (zero-+ᵛ v) h
 covered_start false x v h = h
 
--- parts of a draw, with the sum of their weights
+-- Parts of a draw, with the sum of their weights.
 abbrev pub CoveredPart : Bool → Value → Rational → Value → Value → Type 0
 CoveredPart true y w r d = y ≤ᵛ (finite w *ᵛ r) +ᵛ d
 CoveredPart false y w r d = d ≤ᵛ y
@@ -190,6 +190,5 @@ pub part_all : (up : Bool) (y r d : Value) → CoveredPart up y oneʳ r d → Co
 part_all true y r d g = subst (λ u. y ≤ᵛ u +ᵛ d) (one_times r) g
 part_all false y r d g = g
 
--- parts that are each safe from the value of a run that has not ended
 pub begun_part : (up : Bool) (u w : Rational) (d k : Value) → zeroʳ ≤ʳ u → zeroʳ ≤ʳ w → Safe up (finite u *ᵛ begun up) d → Safe up (begun up) k → Safe up (finite (u +ʳ w) *ᵛ begun up) (d +ᵛ (finite w *ᵛ k))
 begun_part up u w d k p q g h = subst (λ v. Safe up v (d +ᵛ (finite w *ᵛ k))) (sym (weights-* u w (begun up) p q)) (safe_sum up (finite u *ᵛ begun up) d (finite w *ᵛ begun up) (finite w *ᵛ k) g (safe_scale up w (begun up) k q h))

@@ -1,4 +1,4 @@
--- What acts mean depends on the visible variables alone.
+-- The meaning of acts depends only on the visible variables.
 use Rattle.std.proofs.Common.{◌≡◌, ◌∙◌, ℕ, refl, ap, ap₂, Bool, true, false, cond, ◌==◌, ◌||◌, List, [], ◌∷◌, ◌++◌}
 use Prim.Native.Nat.{zero, suc}
 use Rattle.heyvl_num.specs.Rational.{Rational}
@@ -105,7 +105,7 @@ drawn_on : (v : Visible) (x : ℕ) (qs : List (Rational × Term)) (k : Post) →
 drawn_on v x [] k h r s t c a = refl
 drawn_on v x (q ∷ qs) k h r s t c a = parts_on v x qs k h.1 r (part x q k) (part_on v x q k h.0 r) s t c a
 
--- a loop whose head sees what is visible
+-- A loop whose head sees only visible variables.
 module _ (up : Bool) (v : Visible) (h : Head) (si : Sees v h.inv) (sg : SeesCond v h.guard) (body : Post → Post) (car : (k : Post) → Respects v k → Respects v (body k)) (k : Post) (r : Respects v k) where
   once_on : (z : Post) → Respects v (body z) → Respects v (once body h k z)
   once_on z b s t c a = same_cond _ _ _ _ _ _ (holds_on v h.guard s t sg a) (b s t (right c) a) (r s t (right c) a)
@@ -114,7 +114,6 @@ module _ (up : Bool) (v : Visible) (h : Head) (si : Sees v h.inv) (sg : SeesCond
   way_on zero s t c a = value_on v h.inv s t si a
   way_on (suc j) s t c a = ap₂ (checked (meets up)) (value_on v h.inv s t si a) (once_on (way up body h k j) (car _ (way_on j)) s t (right c) a)
 
-  -- what is blamed, in states after a havoc
   pub blamed_on : (s t : Env) (c : Choices) → AgreeOn v s t → validated up (checked (may up) (value h.inv s Choices.stop) (once body h k (way up body h k (more h)) s c)) ≡ validated up (checked (may up) (value h.inv t Choices.stop) (once body h k (way up body h k (more h)) t c))
   blamed_on s t c a = ap (validated up) (ap₂ (checked (may up)) (value_on v h.inv s t si a) (once_on (way up body h k (more h)) (car _ (way_on (more h))) s t c a))
 

@@ -1,5 +1,5 @@
--- A procedure that is shown throughout has its bound: from the static rules and the bound goals to what the induction over runs
--- asks of it and of each procedure that it reaches.
+-- If the goals of a procedure and of all that it reaches hold, it has its bound: the requirements
+-- of the induction over runs follow from the static rules and the goals.
 use Rattle.std.proofs.Common.{◌≡◌, ◌<◌, ℕ, refl, sym, subst, ◌∙◌, Bool, true, false, ◌||◌, ◌⊎◌, inl, inr, List, length}
 use Rattle.heyvl_acts.specs.Acts.{Act, TypedProcedure, acts_in, procedure_at}
 use Rattle.heyvl_acts.specs.Places.{in_order}
@@ -16,13 +16,13 @@ use Rattle.bounded_runs.proofs.ProgramReasons.{HasNoReason, no_reason, none_brea
 use Rattle.bounded_runs.proofs.RuledPrograms.{IsRuled, all_ruled, program_acts}
 use Rattle.bounded_runs.proofs.SmallFormulas.{main_goal, small_invariants, small_post, small_pre}
 
--- ---- The procedures that one reaches
+-- ---- The procedures that a procedure reaches
 
 module _ (ps : List TypedProcedure) (rules : Each (MeetsRules ps) ps) where
   rules_of : (n : ℕ) → n < length ps → MeetsRules ps (procedure_at ps n)
   rules_of n lt = each_procedure ps ps n rules lt
 
-  -- A procedure that a procedure of this direction may call.
+  -- A procedure that a procedure of the direction `co` may call.
   record IsLike (co : Bool) (n : ℕ) : Type 0 where
     pub there : n < length ps
     pub direction : (procedure_at ps n).co ≡ co
@@ -38,7 +38,7 @@ module _ (ps : List TypedProcedure) (rules : Each (MeetsRules ps) ps) where
   reached_like co _ _ k (Reaches.directly p n c) = call_like co p n k c
   reached_like co _ _ k (Reaches.onward p m n c w) = reached_like co m n (call_like co p m k c) w
 
-  -- ---- What the induction over runs asks of each
+  -- ---- The requirements of the induction over runs on each procedure
 
   module _ (R : ℕ → Type 0) (closed : (n q : ℕ) → R n → Calls ps n q → R q) (co : Bool) (like : (n : ℕ) → R n → IsLike co n) (shown : (n : ℕ) → R n → IsShown ps n) where
     formulas_of : (n : ℕ) → R n → HasFormulas (procedure_at ps n)
@@ -59,7 +59,6 @@ module _ (ps : List TypedProcedure) (rules : Each (MeetsRules ps) ps) where
       reason : HasNoReason q
       reason = no_reason q (shown n r).program
 
-      -- A procedure that is no coproc is weak.
       weak : q.co ≡ false → q.weak ≡ true
       weak e = go q.co q.weak e reason.kind
         where
@@ -73,7 +72,6 @@ module _ (ps : List TypedProcedure) (rules : Each (MeetsRules ps) ps) where
       program : Program q.co ps R q (acts_in q.body)
       program = program_acts ps R q reason.kind (interface q) (acts_in q.body) here.scopes ruled
 
-      -- The bound holds by the meaning of the body.
       bounded : IsBoundedProgram q.co ps R q
       bounded = record {
         formulas = formulas_of n r;
@@ -84,7 +82,6 @@ module _ (ps : List TypedProcedure) (rules : Each (MeetsRules ps) ps) where
         small_post = λ e. small_post ps q here (shown n r).program (shown n r).goals (weak e);
       }
 
-    -- So in the direction of the procedure that reaches them.
     bounded_so : (n : ℕ) → R n → IsBoundedProgram co ps R (procedure_at ps n)
     bounded_so n r = subst (λ up. IsBoundedProgram up ps R (procedure_at ps n)) (like n r).direction (bounded n r)
 

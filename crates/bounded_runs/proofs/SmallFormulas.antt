@@ -1,4 +1,4 @@
--- The formulas of a weak proc are at most 1, where the goals that say so hold.
+-- The formulas of a proc with `@wlp` are at most 1, if the goals that state this hold.
 use Rattle.std.proofs.Common.{◌≡◌, ◌≤◌, ◌<◌, ◌≢◌, ℕ, refl, sym, ap, subst, ◌∙◌, arith, Bool, true, false, ◌==◌, List, [], ◌∷◌, ◌++◌, length, map}
 use Rattle.std.specs.Prelude.{if◌then◌else◌, Option, Some, None}
 use Rattle.std.proofs.lemmas.List.{append_assoc, length-map, map-append}
@@ -25,7 +25,6 @@ use Rattle.bounded_runs.proofs.RuledPrograms.{HasSmallInvariant}
 
 -- ---- Formulas over the first variables
 
--- A formula over the first variables that is at most 1 in all states is so in the states of these variables.
 small_front : (ts us : List Ty) (f : Form) → IsOver (length ts) f → IsAtMostOne (ts ++ us) f → IsSmall ts f
 small_front ts us f o h s t =
     let same = same_on f (environment (s ++ picks us Choices.stop)) (environment s) Choices.stop (λ y k. append_first s (picks us Choices.stop) y (subst (λ n. y < n) (sym (length-typed ts s t)) (o y k))) in
@@ -33,12 +32,11 @@ small_front ts us f o h s t =
 
 -- ---- Invariants
 
--- The predicate holds of the formula, where there is one.
+-- The property holds of the formula, if there is one.
 abbrev OfForm : (Form → Type 0) → Option Form → Type 0
 OfForm P None = Unit {0}
 OfForm P (Some f) = P f
 
--- What follows for each number from the first on follows for all that are counted.
 each_further : (Q S : ℕ → Type 0) (from n : ℕ) → ((m : ℕ) → from ≤ m → Q m → S m) → Each Q (counted from n) → Each S (counted from n)
 each_further Q S from zero f h = tt
 each_further Q S from (suc n) f h = (f from (omega arith) h.0, each_further Q S (suc from) n (λ m l. f m (omega (arith, l))) h.1)
@@ -46,7 +44,6 @@ each_further Q S from (suc n) f h = (f from (omega arith) h.0, each_further Q S 
 abbrev IsSmallIn : TypedProcedure → Form → Type 0
 IsSmallIn p f = IsAtMostOne (type_list (variables p)) f
 
--- Loops have small invariants where the invariants of their numbers are small, and the numbers differ.
 loops_have : (p : TypedProcedure) (from n : ℕ) (acts : List Act) → loop_numbers acts ≡ counted from n → Each (λ m. OfForm (IsSmallIn p) (invariant_in m acts)) (loop_numbers acts) → Each (HasSmallInvariant p) acts
 loops_have p from n [] e h = tt
 loops_have p from n (Act.set x t span ∷ rest) e h = (tt, loops_have p from n rest e h)
@@ -87,7 +84,6 @@ each_all Q S (x ∷ xs) f h = (f x h.0, each_all Q S xs f h.1)
 
 -- ---- The goals
 
--- The main goal of a program holds.
 pub main_goal : (ps : List TypedProcedure) (p : TypedProcedure) → IsProgram p → BoundGoalsHold ps p → IsBounded ps p
 main_goal ps p h g = go p.body h g
   where
@@ -95,7 +91,7 @@ main_goal ps p h g = go p.body h g
     go None h g = absurd (cc)
     go (Some acts) h g = g.0
 
--- The goals that a weak proc has besides.
+-- The additional goals of a proc with `@wlp`.
 record WeakGoals (ps : List TypedProcedure) (p : TypedProcedure) : Type 0 where
   pub pre : IsAtMostOne (type_list (variables p)) p.pre
   pub post : IsAtMostOne (type_list (variables p)) p.post

@@ -1,4 +1,4 @@
--- What small programs are written with, and what the static rules ask of it.
+-- The acts and formulas of small programs, and the requirements of the static rules on them.
 use Rattle.std.proofs.Common.{◌≡◌, ◌≤◌, ◌<◌, ◌⊎◌, inl, inr, refl, ap, ◌∙◌, ℕ, leb, ◌==◌, ◌||◌, true, false, List, [], ◌∷◌, pos, arith}
 use Rattle.std.proofs.lemmas.Bool.Decides.{leb_tells}
 use Prim.Native.Nat.{zero, suc}
@@ -46,7 +46,6 @@ pub two_held : (tys : List Ty) → IsHeld (types_in tys) two_form
 unfolding zeroʳ ratio leqʳ
 two_held tys = (refl, refl)
 
--- Where the first variable is the only one to see, a loop has it in its scope.
 pub only_first : (y : ℕ) → ((0 == y) || leb (suc y) 1) ≡ ((0 == y) || false)
 only_first zero = refl
 only_first (suc y) = ap (λ b. (0 == suc y) || b) (go (leb_tells (suc (suc y)) 1))

@@ -1,4 +1,4 @@
--- What the rules say of each act of a program without loops and calls.
+-- The static rules on each act of a program without loops and calls.
 use Rattle.std.proofs.Common.{◌≡◌, ℕ, refl, sym, subst, Bool, true, false, not, ◌||◌, List, [], ◌∷◌}
 use Rattle.std.specs.Prelude.{Option, Some, None, if◌then◌else◌}
 use Rattle.heyvl_num.specs.Rational.{Rational, oneʳ}
@@ -16,8 +16,8 @@ use Rattle.heyvl_acts.specs.WellTypedActs.{DrawFits, PartsFit, IsProbability}
 use Rattle.heylo_formula.specs.declared.types.Ty.{Ty}
 use Rattle.heyvl_acts.specs.Straight.{IsStraight}
 
--- No check, no loop and no call; a target is one of n variables, the weights of a draw are from 0 on and add up to 1, and
--- rewards come upward alone.
+-- The act is no check, no loop and no call; a target is one of `n` variables, the weights of a draw
+-- are not negative and have the sum 1, and rewards occur only upward.
 abbrev pub IsSimple : Bool → TypedProcedure → Act → Type 0
 IsSimple up n (Act.set x t span) = IsOwn n x × TermFits (types_of n) (types_of n x) t
 IsSimple up n (Act.draw x qs span) = IsOwn n x × (PartsFit (types_of n) x qs × (total_weight qs ≡ oneʳ))
@@ -33,7 +33,7 @@ IsSimple up n (Act.call xs q es span) = ⊥
 
 -- ---- Programs
 
--- What a program is, beside its body.
+-- The conditions on a program other than those on its body.
 pub record Plain (p : TypedProcedure) : Type 0 where
   pub directed : (p.co || p.weak) ≡ true
   pub unbound : has_binder p.post ≡ false

@@ -1,4 +1,4 @@
--- Broken bounds of small programs, computed by hand, and as the law gives them.
+-- Violated bounds of small programs, computed by hand, and derived by the law.
 use Rattle.std.proofs.Common.{◌≡◌, ◌≤◌, refl, ℕ, true, false, [], ◌∷◌, arith}
 use Rattle.std.specs.Prelude.{Some}
 use Rattle.heyvl_num.specs.Rational.{ratio, zeroʳ, oneʳ, halfʳ, leqʳ, ◌+ʳ◌, ◌*ʳ◌}
@@ -28,7 +28,7 @@ collecting = record nobody { body = Some (only (Act.pick true Acts.done (only (A
 abbrev to_the_right : Tree
 to_the_right = Tree.node (Decision.side false) Forest.no_trees
 
--- To the right a run collects with its second step, to the left it doesn't.
+-- On the right a run collects the reward in its second step, on the left it does not.
 after_one_step : sum_of true zero_form (runs (collecting ∷ []) 1 (begin (collecting ∷ []) 0 []) to_the_right) ≡ zeroᵛ
 unfolding runs weighted_sum scaled ◌+ᵛ◌ ◌*ᵛ◌ zeroᵛ oneᵛ zeroʳ oneʳ ◌+ʳ◌ ◌*ʳ◌ ratio
 after_one_step = refl
@@ -69,7 +69,7 @@ one_above_zero h = let e = h.holds in absurd (cc)
 collects_too_much : (n : ℕ) → 2 ≤ n → IsBroken (collecting ∷ []) 0 [] n
 collects_too_much n h = broken (collecting ∷ []) 0 [] Choices.stop (collecting_meets, tt) (omega arith) refl (tt, (tt, tt)) refl one_above_zero n h
 
--- ---- A weak proc with the pre 1 that ends well with the probability 1/2
+-- ---- A proc with `@wlp` and the pre 1, whose post is 1 with the probability 1/2
 
 abbrev flipping : TypedProcedure
 flipping = record nobody {
@@ -81,7 +81,7 @@ flipping = record nobody {
   body = Some (only (Act.draw 0 coin nowhere));
 }
 
--- Before the draw nothing is lost, and with it a half.
+-- Before the draw the sum is 1, and after it 1/2.
 before_the_draw : sum_of false flipping.post (runs (flipping ∷ []) 0 (begin (flipping ∷ []) 0 (Truth false ∷ [])) Tree.leaf) ≡ oneᵛ
 unfolding runs weighted_sum scaled ◌+ᵛ◌ ◌*ᵛ◌ zeroᵛ oneᵛ zeroʳ oneʳ ◌+ʳ◌ ◌*ʳ◌ ratio
 before_the_draw = refl

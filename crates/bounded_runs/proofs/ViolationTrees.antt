@@ -1,4 +1,5 @@
--- For each choice tree, a scheduler whose runs give exactly the forward meaning under these choices.
+-- For all choices, there is a scheduler whose runs give exactly the forward meaning under these
+-- choices.
 use Rattle.std.proofs.Common.{◌≡◌, ◌≤◌, ◌+◌, ℕ, refl, sym, ap, ap₂, subst, ◌∙◌, arith, Bool, true, false, cond, List, [], ◌∷◌, ◌⊎◌, inl, inr}
 use Rattle.std.specs.Prelude.{set}
 use Prim.Native.Nat.{zero, suc}
@@ -71,7 +72,7 @@ picked_two false x y = go (leqᵛ x y)
 
 -- ---- Items
 
--- What acts mean, one item after another.
+-- The meaning of acts, one item after another.
 abbrev pub items_value : Post → List Item → Post
 items_value post [] = post
 items_value post (Item.act a ∷ is) = forward_act a (items_value post is)
@@ -79,7 +80,7 @@ items_value post (Item.turn h b ∷ is) = post
 items_value post (Item.out x ty ∷ is) = post
 items_value post (Item.back ∷ is) = post
 
--- Each item is an act, simple as those inside it.
+-- Each item is an act that is simple, and so are the acts in it.
 abbrev pub AreSimple : Bool → TypedProcedure → List Item → Type 0
 AreSimple up n [] = Unit {0}
 AreSimple up n (Item.act a ∷ is) = (IsSimple up n a × Each (IsSimple up n) (inside a)) × AreSimple up n is
@@ -106,7 +107,6 @@ pub push_length : (b : Acts) (is : List Item) → items_length (push b is) ≡ l
 push_length Acts.done is = omega arith
 push_length (Acts.next a rest) is = let h = push_length rest is in omega (arith, h)
 
--- An act takes a step.
 some_length : (a : Act) (m : ℕ) → length_of_act a + m ≤ 0 → ⊥
 some_length (Act.set x t span) m h = omega (arith, h)
 some_length (Act.draw x qs span) m h = omega (arith, h)
@@ -122,7 +122,7 @@ some_length (Act.call xs q es span) m h = omega (arith, h)
 
 -- ---- Values
 
--- The reward so far counts in the upper sum alone.
+-- The reward so far counts only in the upper sum.
 abbrev pub collected : Bool → Value → Value
 collected true r = r
 collected false r = zeroᵛ
@@ -131,7 +131,6 @@ no_weight : (b : Value) → finite zeroʳ *ᵛ b ≡ zeroᵛ
 unfolding zeroᵛ
 no_weight b = zero-*ᵛ b
 
--- One part more of a sum to which each part adds the same.
 part_more : (w u : Rational) (b k r : Value) → zeroʳ ≤ʳ w → zeroʳ ≤ʳ u → (finite w *ᵛ (b +ᵛ k)) +ᵛ ((finite u *ᵛ b) +ᵛ r) ≡ (finite (w +ʳ u) *ᵛ b) +ᵛ ((finite w *ᵛ k) +ᵛ r)
 part_more w u b k r p q = ap (λ v. v +ᵛ ((finite u *ᵛ b) +ᵛ r)) (scale-+ᵛ w b k) ∙ (+ᵛ_assoc (finite w *ᵛ b) (finite w *ᵛ k) ((finite u *ᵛ b) +ᵛ r) ∙ (ap (λ v. (finite w *ᵛ b) +ᵛ v) (+ᵛ_left_comm (finite w *ᵛ k) (finite u *ᵛ b) r) ∙ (sym (+ᵛ_assoc (finite w *ᵛ b) (finite u *ᵛ b) ((finite w *ᵛ k) +ᵛ r)) ∙ ap (λ v. v +ᵛ ((finite w *ᵛ k) +ᵛ r)) (sym (weights-* w u b p q)))))
 
@@ -145,35 +144,35 @@ none_one e = clash (is_zeroʳ zeroʳ) is_zero-zero (ap is_zeroʳ e ∙ is_zero-o
 -- ---- Schedulers
 
 module _ (ps : List TypedProcedure) (p : ℕ) (up : Bool) (post : Form) (plain : (s : Env) (c : Choices) → value post s Choices.stop ≡ value post s c) (size : TypedProcedure) where
-  -- A configuration of the procedure that was started, without turns.
+  -- A configuration of the procedure that was started, with no iteration so far.
   abbrev pub at : List Item → List Val → Value → Config
   at is s r = record { procedure = p; items = is; frames = []; state = s; reward = r; turns = λ n. 0 }
 
-  -- A scheduler under which the runs of n steps are worth this much beside what has been collected.
+  -- A scheduler under which the runs of `n` steps have this sum, beside the reward so far.
   pub record Gives (n : ℕ) (c : Config) (v : Value) : Type 0 where
     pub scheduler : Tree
     pub gives : sum_of up post (runs ps n c scheduler) ≡ collected up c.reward +ᵛ v
 
-  -- A decision, and schedulers for what it leads to: the same of a step.
+  -- A decision for a step, and schedulers for its outcomes, with this sum.
   record Leads (n : ℕ) (a : Act) (is : List Item) (s : List Val) (r v : Value) : Type 0 where
     decision : Decision
     schedulers : Forest
     leads : sum_of up post (spread (runs ps n) (step_act ps a is (at (Item.act a ∷ is) s r) decision) schedulers) ≡ collected up r +ᵛ v
 
-  -- What the items mean, with the post behind them.
+  -- The meaning of the items, followed by the post.
   abbrev meant_by : List Item → Post
   meant_by is = items_value (value post) is
 
-  -- Some scheduler gives what the items mean, for each choice tree.
+  -- For all choices, some scheduler gives the meaning of the items.
   abbrev pub Claim : ℕ → Type 0
   Claim n = (is : List Item) → AreSimple up size is → items_length is ≤ n → (s : List Val) → IsState size s → (r : Value) (c : Choices) → Gives n (at is s r) (items_value (value post) is (environment s) c)
 
-  -- Schedulers for the parts of a draw, which are worth this much beside what has been collected.
+  -- Schedulers for the parts of a draw, with this sum beside the reward so far.
   record Shares (n : ℕ) (x : ℕ) (qs : List (Rational × Term)) (is : List Item) (s : List Val) (r v : Value) : Type 0 where
     schedulers : Forest
     gives : sum_of up post (spread (runs ps n) (branches (at is s r) is x qs) schedulers) ≡ (finite (total_weight qs) *ᵛ collected up r) +ᵛ v
 
-  -- The choices that are left for what has been summed, and what the parts are worth.
+  -- The choices that are left for the sum so far, and the sum of the parts.
   record Summed (n : ℕ) (x : ℕ) (qs : List (Rational × Term)) (is : List Item) (s : List Val) (r : Value) (total : Post) (c : Choices) : Type 0 where
     inner : Choices
     sum : Value
@@ -181,14 +180,12 @@ module _ (ps : List TypedProcedure) (p : ℕ) (up : Bool) (post : Form) (plain :
     shares : Shares n x qs is s r sum
 
   module _ (n : ℕ) (claim : Claim n) where
-    -- A variable is given a value.
     at_put : (x : ℕ) → IsOwn size x → (is : List Item) → AreSimple up size is → items_length is ≤ n → (s : List Val) → IsState size s → (v : Val) → has (types_of size x) v ≡ true → (r : Value) (c : Choices) → Gives n (at is (set s x v) r) (meant_by is (put x v (environment s)) c)
     at_put x o is g l s e v i r c = subst (λ t. Gives n (at is (set s x v) r) (meant_by is t c)) (own_put size x v s o e) (claim is g l (set s x v) (own_set size x v s o i e) r c)
 
     term_has : (x : ℕ) (t : Term) (s : List Val) → IsState size s → TermFits (types_of size) (types_of size x) t → has (types_of size x) (term_value t (environment s)) ≡ true
     term_has x t s st f = term_typed (types_of size) (types_of size x) t (environment s) f (env_typed (type_list (variables size)) s st)
 
-    -- A block is put in front.
     at_push : (b : Acts) → Each (IsSimple up size) (in_order b) → (is : List Item) → AreSimple up size is → length_of b + items_length is ≤ n → (s : List Val) → IsState size s → (r : Value) (c : Choices) → Gives n (at (push b is) s r) (forward b (meant_by is) (environment s) c)
     at_push b h is g l s e r c = subst (λ (k : Post). Gives n (at (push b is) s r) (k (environment s) c)) (push_value (value post) b is) (claim (push b is) (push_simple up size b is h g) (let m = push_length b is in omega (arith, l, m)) s e r c)
 
@@ -196,7 +193,6 @@ module _ (ps : List TypedProcedure) (p : ℕ) (up : Bool) (post : Form) (plain :
     weights_held x [] f = subst (λ w. zeroʳ ≤ʳ w) (sym (total_weight-empty Term)) (≤ʳ_refl zeroʳ)
     weights_held x (q ∷ qs) f = subst (λ w. zeroʳ ≤ʳ w) (sym (total_weight-cons q.0 q.1 qs)) (+ʳ_nonnegative q.0 (total_weight qs) f.0.0 (weights_held x qs f.1))
 
-    -- One part more.
     share : (x : ℕ) → IsOwn size x → (q : Rational × Term) (qs : List (Rational × Term)) → PartsFit (types_of size) x (q ∷ qs) → (is : List Item) → AreSimple up size is → items_length is ≤ n → (s : List Val) → IsState size s → (r v : Value) → Shares n x qs is s r v → (c : Choices) → Shares n x (q ∷ qs) is s r (part x q (meant_by is) (environment s) c +ᵛ v)
     share x o q qs w is g l s e r v f c =
         let d = at_put x o is g l s e (term_value q.1 (environment s)) (term_has x q.1 s e w.0.1) r c in
@@ -223,7 +219,6 @@ module _ (ps : List TypedProcedure) (p : ℕ) (up : Bool) (post : Form) (plain :
         let d = share x o q qs w is g l s e r f.sum f.shares f.inner in
         record { schedulers = d.schedulers; drawn_leads = d.gives ∙ ap₂ (λ a b. a +ᵛ b) (ap (λ u. finite u *ᵛ collected up r) t ∙ one_times (collected up r)) (sym f.meant) }
 
-    -- An act that leads to one configuration.
     surely : (a : Act) (is : List Item) (s : List Val) (r v : Value) (d : Decision) (c : Config) → step_act ps a is (at (Item.act a ∷ is) s r) d ≡ sure c → collected up c.reward ≡ collected up r → Gives n c v → Leads n a is s r v
     surely a is s r v d c e k f = record { decision = d; schedulers = Forest.trees f.scheduler Forest.no_trees; leads = ap (λ o. sum_of up post (spread (runs ps n) o (Forest.trees f.scheduler Forest.no_trees))) e ∙ (sum-sure up post (runs ps n) c (Forest.trees f.scheduler Forest.no_trees) ∙ (f.gives ∙ ap (λ u. u +ᵛ v) k)) }
 
@@ -266,7 +261,6 @@ module _ (ps : List TypedProcedure) (p : ℕ) (up : Bool) (post : Form) (plain :
       alone true = ap (λ v. r +ᵛ v) (plain (environment s) c)
       alone false = plain (environment s) c ∙ sym (zero-+ᵛ _)
 
-  -- From the length of the acts on, some scheduler gives what they mean.
   pub claims : (n : ℕ) → Claim n
   claims zero [] g l s e r c = record { scheduler = Tree.leaf; gives = ap (λ o. sum_of up post o) (runs-zero ps (at [] s r) Tree.leaf) ∙ ended s r c }
   claims zero (Item.act a ∷ is) g l s e r c = absurd (some_length a _ l)

@@ -1,4 +1,4 @@
--- Where the body of a program without loops and calls breaks the pre, runs break its bound.
+-- If the body of a program without loops and calls violates the pre, some runs violate its bound.
 use Rattle.std.proofs.Common.{◌≡◌, ◌≤◌, sym, ap, subst, ◌∙◌, arith, Bool, true, false, []}
 use Rattle.heyvl_num.specs.Value.{Value, zeroᵛ, ◌+ᵛ◌}
 use Rattle.heyvl_num.proofs.exported.Values.{zero-+ᵛ}

@@ -1,4 +1,5 @@
--- Encodings of a loop with a part left out: their goals hold of a small program though its runs break the bound.
+-- Encodings of a loop without one of their parts: their goals hold of a small program although its
+-- runs violate the bound.
 use Rattle.std.proofs.Common.{◌≡◌, ◌∙◌, refl, ℕ, Bool, true, false, List, [], ◌∷◌, arith}
 use Rattle.std.specs.Prelude.{Some, None, drop, not, if◌then◌else◌}
 use Rattle.heyvl_num.specs.Rational.{zeroʳ, oneʳ, ratio, leqʳ, ◌+ʳ◌, ◌*ʳ◌}
@@ -32,7 +33,8 @@ use Rattle.loop_encodings.specs.BoundGoals.{IsBounded}
 use Rattle.loop_encodings.specs.Encoding.{encoded_loop, encoding, havocs}
 use Rattle.bounded_runs.proofs.SmallPrograms.{one_not_zero, zero_held, only_first, nowhere, only, flag_named, zero_form}
 
--- ---- A coproc with the pre 0 whose flag is lowered, and then raised by a loop; its post is 1 where it is raised
+-- ---- A coproc with the pre 0 whose flag is lowered, and then raised by a loop; its post is 1 if
+-- the flag is raised
 
 abbrev raise : Acts
 raise = only (Act.set 0 (Term.truth (Cond.constant true)) nowhere)
@@ -48,7 +50,6 @@ raising inv = record nobody {
   loops = 1;
 }
 
--- The rules ask of the invariant that it is a formula over the flag.
 raising_meets : (inv : Form) → IsHeld (types_in (Ty.Bool ∷ [])) inv → Sees (among (0 ∷ [])) inv → MeetsRules (raising inv ∷ []) (raising inv)
 raising_meets inv held sees = record {
   few_parameters = omega arith;
@@ -74,7 +75,7 @@ raising_meets inv held sees = record {
 abbrev with_loop : Acts → Acts
 with_loop loop = Acts.next (Act.set 0 (Term.truth (Cond.constant false)) nowhere) loop
 
--- The bound goal over such an encoding: no state and no choices make it more than 0.
+-- The bound goal over such an encoding: its value is 0 in each state, for all choices.
 abbrev IsNothing : Form → Acts → Type 0
 IsNothing inv acts = (s : List Val) (c : Choices) → IsTyped (Ty.Bool ∷ []) s → Compares true zeroᵛ (forward acts (value (raising inv).post) (environment s) c)
 
@@ -101,7 +102,7 @@ forgetful_is_nothing : IsNothing zero_form (with_loop forgetful)
 unfolding maxᵛ coimpliesᵛ covalidateᵛ is_zeroʳ leqᵛ leqʳ zeroᵛ oneᵛ zeroʳ oneʳ ratio
 forgetful_is_nothing s c t = record { holds = refl }
 
--- The flag is raised before the loop's test: the choices at which the encoding's goal fails.
+-- The flag is raised before the loop's test: the choices for which the encoding's goal fails.
 abbrev raised_before : Choices
 raised_before = Choices.choose (Truth false) Choices.stop (Choices.choose (Truth true) Choices.stop Choices.stop)
 
@@ -113,7 +114,7 @@ goal_of_forgetful_fails : IsBounded (raising zero_form ∷ []) (raising zero_for
 unfolding maxᵛ coimpliesᵛ covalidateᵛ is_zeroʳ leqᵛ leqʳ zeroᵛ oneᵛ zeroʳ oneʳ ratio
 goal_of_forgetful_fails h = let e = (h (Truth false ∷ []) raised_before (refl, refl)).holds in absurd (cc)
 
--- ---- The last copy without its coassert: with the invariant 1 where the flag is raised
+-- ---- The last copy without its coassert: with the invariant that is 1 if the flag is raised
 
 abbrev raised : Form
 raised = Form.iverson (Cond.flag 0)
@@ -137,7 +138,6 @@ unchecked_is_nothing : IsNothing raised (with_loop unchecked)
 unfolding maxᵛ coimpliesᵛ covalidateᵛ is_zeroʳ leqᵛ leqʳ zeroᵛ oneᵛ zeroʳ oneʳ ratio
 unchecked_is_nothing s c t = go (truth_of (fit Ty.Bool (here (right c))))
   where
-    -- whatever the flag is before the test
     go : (b : Bool) → maxᵛ (if false then oneᵛ else zeroᵛ) (covalidateᵛ (coimpliesᵛ (if b then oneᵛ else zeroᵛ) (if not b then coimpliesᵛ infinite oneᵛ else (if b then oneᵛ else zeroᵛ)))) ≤ᵛ zeroᵛ
     go true = record { holds = refl }
     go false = record { holds = refl }
@@ -146,7 +146,6 @@ goal_of_unchecked_fails : IsBounded (raising raised ∷ []) (raising raised) →
 unfolding maxᵛ coimpliesᵛ covalidateᵛ is_zeroʳ leqᵛ leqʳ zeroᵛ oneᵛ zeroʳ oneʳ ratio
 goal_of_unchecked_fails h = let e = (h (Truth false ∷ []) Choices.stop (refl, refl)).holds in absurd (cc)
 
--- Both invariants meet the rules.
 zero_meets : MeetsRules (raising zero_form ∷ []) (raising zero_form)
 zero_meets = raising_meets zero_form (zero_held (Ty.Bool ∷ [])) (λ y e. absurd (cc))
 

@@ -1,5 +1,5 @@
--- The bound of a loop with two copies of its body, by the law of encodings; and an encoding that asks too much of it: a coassert
--- between the copies, where the encoding has an assert.
+-- The bound of a loop with two copies of its body, by the law of encodings; and an encoding that
+-- requires too much: it has a coassert between the copies instead of an assert.
 use Rattle.std.proofs.Common.{◌≡◌, refl, ℕ, ◌||◌, Bool, true, false, List, [], ◌∷◌, pos, arith}
 use Rattle.std.specs.Prelude.{Some, if◌then◌else◌}
 use Rattle.heyvl_num.specs.Rational.{zeroʳ, oneʳ, halfʳ, ratio, leqʳ, ◌+ʳ◌, ◌*ʳ◌}
@@ -29,7 +29,8 @@ use Rattle.loop_encodings.proofs.exported.Examples.{at, here as place, half, who
 use Rattle.bounded_runs.proofs.LawExamples.{bound_of}
 use Rattle.bounded_runs.proofs.SmallPrograms.{only, only_first, half_from_zero, fair_weighs_one}
 
--- The hop from 1 on: to 2, and from there to 0 or to 3, each with the probability 1/2. It is bounded by ending at 3.
+-- The hop from 1: to 2, and from there to 0 or to 3, each with the probability 1/2. It is bounded
+-- by the probability of terminating at 3.
 abbrev hopping : TypedProcedure
 hopping = record nobody {
   outputs = named 20 Ty.UInt ∷ [];
@@ -57,14 +58,13 @@ encoding_is_with_assert = refl
 
 -- ---- The goal holds
 
--- What two copies give from 1, and from 2.
+-- The values of two copies from 1, and from 2.
 abbrev from_one : Value
 from_one = minᵛ oneᵛ ((finite half *ᵛ maxᵛ zeroᵛ (coimpliesᵛ infinite zeroᵛ)) +ᵛ (finite half *ᵛ maxᵛ oneᵛ (coimpliesᵛ infinite oneᵛ)))
 
 abbrev from_two : Value
 from_two = (finite half *ᵛ minᵛ zeroᵛ zeroᵛ) +ᵛ (finite half *ᵛ minᵛ oneᵛ oneᵛ)
 
--- Whether x is 1, 2 or 3 before the test: the invariant is at least what the copies give.
 inductive : (a b d : Bool) → maxᵛ (finite half) (covalidateᵛ (coimpliesᵛ (if a then finite half else (if b then oneᵛ else (if d then oneᵛ else zeroᵛ))) (if a || b then (if a then from_one else from_two) else (if d then oneᵛ else zeroᵛ)))) ≤ᵛ finite half
 unfolding minᵛ maxᵛ coimpliesᵛ covalidateᵛ is_zeroʳ leqᵛ leqʳ ◌+ᵛ◌ ◌*ᵛ◌ zeroᵛ oneᵛ zeroʳ oneʳ ◌+ʳ◌ ◌*ʳ◌ ratio
 inductive true b d = record { holds = refl }
@@ -145,7 +145,8 @@ hopping_meets = record {
 hopping_is_bounded : Bound (hopping ∷ []) 0
 hopping_is_bounded = bound_of hopping hopping_meets refl (hopping_meets_its_goal, tt) (λ q e. absurd (cc))
 
--- ---- With a coassert between the copies it doesn't: from 1 the invariant 1/2 is below its value 1 at 2
+-- ---- With a coassert between the copies it fails: at 1 the invariant 1/2 is below its value 1 at
+-- 2
 
 -- x is 1 before the test.
 abbrev from_one_again : Choices

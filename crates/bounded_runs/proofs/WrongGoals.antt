@@ -1,5 +1,5 @@
--- Goals left out, or asked of too little: what is left of them holds of small programs though their runs break the bound. Each is of
--- a file that meets the rules.
+-- Goals that are left out, or weakened: the remaining goals hold of small programs although their
+-- runs violate the bound. Each file satisfies the static rules.
 use Rattle.std.proofs.Common.{◌≡◌, refl, true, false, List, [], ◌∷◌, pos, arith}
 use Rattle.std.specs.Prelude.{Some, None}
 use Rattle.heyvl_num.specs.Rational.{zeroʳ, oneʳ, halfʳ, ratio, leqʳ, ◌+ʳ◌, ◌*ʳ◌}
@@ -32,7 +32,7 @@ use Rattle.loop_encodings.specs.BoundGoals.{BoundGoal, GoalHolds, IsBounded}
 use Rattle.loop_encodings.specs.Encoding.{encoding}
 use Rattle.bounded_runs.proofs.SmallPrograms.{one_not_zero, zero_held, one_held, two_held, half_from_zero, fair_weighs_one, only_first, nowhere, only, flag_named, one_form, two_form, coin}
 
--- ---- Without the goals of a weak proc: a weak proc with the pre 2, the post 2 and one assignment
+-- ---- Without the goals of a proc with `@wlp`: one with the pre 2, the post 2 and one assignment
 
 abbrev doubling : TypedProcedure
 doubling = record nobody {
@@ -65,11 +65,9 @@ doubling_meets = record {
   numbered = refl;
 }
 
--- Its main goal holds.
 doubling_is_bounded : IsBounded (doubling ∷ []) doubling
 doubling_is_bounded s c t = ≤ᵛ_refl (finite (ratio (pos 2) 1))
 
--- Before the assignment its weak sum is 1.
 doubling_begun : sum_of false doubling.post (runs (doubling ∷ []) 0 (begin (doubling ∷ []) 0 (Truth false ∷ [])) Tree.leaf) ≡ oneᵛ
 unfolding runs weighted_sum scaled ◌+ᵛ◌ ◌*ᵛ◌ zeroᵛ oneᵛ zeroʳ oneʳ ◌+ʳ◌ ◌*ʳ◌ ratio
 doubling_begun = refl
@@ -81,14 +79,14 @@ two_above_one h = let e = h.holds in absurd (cc)
 doubling_breaks_its_bound : Bound (doubling ∷ []) 0 → ⊥
 doubling_breaks_its_bound h = two_above_one (let k = h (Truth false ∷ []) (refl, refl) 0 Tree.leaf in rw doubling_begun at k)
 
--- Its pre and its post are not at most 1.
 pre_goal_fails : GoalHolds (doubling ∷ []) doubling BoundGoal.pre → ⊥
 pre_goal_fails h = two_above_one (h (Truth false ∷ []) Choices.stop (refl, refl))
 
 post_goal_fails : GoalHolds (doubling ∷ []) doubling BoundGoal.post → ⊥
 post_goal_fails h = two_above_one (h (Truth false ∷ []) Choices.stop (refl, refl))
 
--- ---- Without the goals of invariants: a weak proc that tosses a coin and then ends, or loops with the invariant 2
+-- ---- Without the goals of invariants: a proc with `@wlp` that tosses a coin and then terminates,
+-- or loops with the invariant 2
 
 abbrev looping_or_not : TypedProcedure
 looping_or_not = record nobody {
@@ -121,7 +119,6 @@ looping_or_not_meets = record {
   numbered = refl;
 }
 
--- Its main goal holds, its pre and its post are at most 1.
 looping_or_not_is_bounded : IsBounded (looping_or_not ∷ []) looping_or_not
 unfolding minᵛ impliesᵛ validateᵛ halfʳ leqᵛ leqʳ ◌+ᵛ◌ ◌*ᵛ◌ zeroᵛ oneᵛ zeroʳ oneʳ ◌+ʳ◌ ◌*ʳ◌ ratio
 looping_or_not_is_bounded s c t = record { holds = refl }
@@ -132,7 +129,6 @@ its_pre_is_small s c t = ≤ᵛ_refl oneᵛ
 its_post_is_small : GoalHolds (looping_or_not ∷ []) looping_or_not BoundGoal.post
 its_post_is_small s c t = zero-≤ᵛ-one
 
--- After the toss and the test, half of its runs have ended with the post 0.
 looping_or_not_breaks_its_bound : Bound (looping_or_not ∷ []) 0 → ⊥
 unfolding runs weighted_sum scaled halfʳ leqᵛ leqʳ ◌+ᵛ◌ ◌*ᵛ◌ zeroᵛ oneᵛ zeroʳ oneʳ ◌+ʳ◌ ◌*ʳ◌ ratio
 looping_or_not_breaks_its_bound h = let e = (h (Truth false ∷ []) (refl, refl) 2 Tree.leaf).holds in absurd (cc)
@@ -140,7 +136,8 @@ looping_or_not_breaks_its_bound h = let e = (h (Truth false ∷ []) (refl, refl)
 its_invariant_is_not_small : GoalHolds (looping_or_not ∷ []) looping_or_not (BoundGoal.invariant 1) → ⊥
 its_invariant_is_not_small h = two_above_one (h (Truth false ∷ []) Choices.stop (refl, refl))
 
--- ---- Without the goals of a called procedure: a coproc with the pre 0 and the post 0 collects a reward of 1
+-- ---- Without the goals of a called procedure: a coproc with the pre 0 and the post 0 collects a
+-- reward of 1
 
 abbrev collecting : TypedProcedure
 collecting = record nobody { body = Some (only (Act.reward one_form nowhere)) }
@@ -202,7 +199,8 @@ collecting_is_not_bounded : IsBounded (calling ∷ collecting ∷ []) collecting
 unfolding leqᵛ leqʳ ◌+ᵛ◌ zeroᵛ oneᵛ zeroʳ oneʳ ◌+ʳ◌ ratio
 collecting_is_not_bounded h = let e = (h [] Choices.stop refl).holds in absurd (cc)
 
--- ---- With a single choice of values: a coproc with the pre 0 whose flag takes any value, and whose post is 1 where it is raised
+-- ---- With a single choice of values: a coproc with the pre 0 whose flag takes any value, and
+-- whose post is 1 where it is raised
 
 abbrev flag_taking : TypedProcedure
 flag_taking = record nobody {
@@ -242,7 +240,8 @@ flag_taking_breaks_its_bound h = let e = (h (Truth false ∷ []) (refl, refl) 1 
 flag_taking_is_not_bounded : IsBounded (flag_taking ∷ []) flag_taking → ⊥
 flag_taking_is_not_bounded h = one_not_zero (h (Truth false ∷ []) (Choices.choose (Truth true) Choices.stop Choices.stop) (refl, refl))
 
--- ---- Of what is no program: a coproc with the pre 0, the post 1 and a check behind which nothing counts, which runs pass over
+-- ---- A procedure that is no program: a coproc with the pre 0, the post 1 and a check after which
+-- nothing counts, which runs skip
 
 abbrev checking : TypedProcedure
 checking = record nobody { post = one_form; body = Some (only (Act.check CheckKind.CoAssume (Form.embed (Cond.constant true)) nowhere)) }

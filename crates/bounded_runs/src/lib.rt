@@ -1,5 +1,5 @@
-//! The law of bounds over runs: where the goals of a bound hold, no run breaks it, and where the main goal of a program without
-//! loops and calls fails, some runs do.
+//! Laws of bounds over runs: if the goals of a bound hold, all runs satisfy it; if the main goal of
+//! a program without loops and calls fails, some runs violate it.
 #![tactic(auto)]
 
 mod laws;
