@@ -55,14 +55,14 @@ stop_or_count = Act.ifs (Arms.arm (Cond.flag 3) (one (Act.set 2 (Term.truth (Con
 abbrev geometric : Rational → Acts
 geometric half = both (fair 3 half) (one stop_or_count)
 
--- So much while it goes on, and then nothing.
+-- The given value while it goes on, and then 0.
 abbrev left_turns : Rational → Form
 left_turns q = Form.select (Cond.flag 2) (constant q) (Form.number zeroᵛ)
 
 abbrev state : Bool → List Val
 state b = Num zeroʳ ∷ Num zeroʳ ∷ Truth b ∷ Truth false ∷ []
 
--- Nothing in the body is left out or turned.
+-- The body has no reward, and no choice that changes direction.
 geometric_upward : (half : Rational) → upward (geometric half) ≡ geometric half
 geometric_upward half = refl
 
@@ -79,7 +79,7 @@ one_is_too_little : after_turn (head (Cond.flag 2)) (geometric halfʳ) (whole 1,
 unfolding ◌+ᵛ◌ ◌*ᵛ◌ zeroᵛ oneᵛ zeroʳ oneʳ halfʳ ◌+ʳ◌ ◌*ʳ◌ ratio gcd gcd_steps
 one_is_too_little = refl
 
--- But it is one of step 1/2: 1/2 + 1/2 is 1.
+-- With the step 1/2 it is a ranking: 1/2 + 1/2 is 1.
 two_halves : finite halfʳ +ᵛ finite halfʳ ≡ oneᵛ
 unfolding oneᵛ
 two_halves = finite-+ halfʳ halfʳ ∙ ap finite halves
@@ -87,12 +87,13 @@ two_halves = finite-+ halfʳ halfʳ ∙ ap finite halves
 half_a_step : after_turn (head (Cond.flag 2)) (geometric halfʳ) (halfʳ, Form.select (Cond.flag 2) (Form.number oneᵛ) (Form.number zeroᵛ)) (environment (state true)) Choices.stop ≡ oneᵛ
 half_a_step = ap (λ v. finite halfʳ +ᵛ v) (ap₂ (λ x y. x +ᵛ y) (*ᵛ-zero (finite halfʳ)) (*ᵛ-one (finite halfʳ)) ∙ zero-+ᵛ (finite halfʳ)) ∙ two_halves
 
--- What the goal finds.
+-- The computed form of the goal.
 geometric_found : (half : Rational) → found (head (Cond.flag 2)) (geometric half) (whole 1, left_turns (whole 2)) ≡ Form.select (Cond.flag 2) (Form.sum (constant (whole 1)) (Form.sum (Form.scale half (Form.select (Cond.constant true) (Form.select (Cond.constant false) (constant (whole 2)) (Form.number zeroᵛ)) (left_turns (whole 2)))) (Form.scale half (Form.select (Cond.constant false) (Form.select (Cond.constant false) (constant (whole 2)) (Form.number zeroᵛ)) (left_turns (whole 2)))))) (Form.number zeroᵛ)
 unfolding Replaced.subst
 geometric_found half = refl
 
--- Of the runs, each has a turn with its first step; with the fifth step half of them have a second one.
+-- Each run has an iteration with its first step; with the fifth step half of the runs have a second
+-- one.
 first_turn : turns_sum 1 (runs [] 1 (at_test 0 (head (Cond.flag 2)) (geometric halfʳ) (state true)) Tree.leaf) ≡ finite (whole 1)
 unfolding runs weighted_sum scaled ◌+ᵛ◌ ◌*ᵛ◌ zeroᵛ oneᵛ zeroʳ oneʳ halfʳ ◌+ʳ◌ ◌*ʳ◌ ratio gcd gcd_steps
 first_turn = refl
@@ -101,7 +102,7 @@ second_turn : turns_sum 1 (runs [] 5 (at_test 0 (head (Cond.flag 2)) (geometric 
 unfolding runs weighted_sum scaled ◌+ᵛ◌ ◌*ᵛ◌ zeroᵛ oneᵛ zeroʳ oneʳ halfʳ ◌+ʳ◌ ◌*ʳ◌ ratio gcd gcd_steps
 second_turn = refl
 
--- ---- The walk: 0 is the input, 1 where it is, 2 whether it goes down; each turn costs 1
+-- ---- The walk: 0 is the input, 1 the position, 2 whether it goes down; each iteration costs 1
 
 abbrev go_down : Act
 go_down = Act.ifs (Arms.arm (Cond.flag 2) (one (Act.set 1 (Term.number (Form.cut (Form.variable 1) (Form.number oneᵛ))) nowhere)) Arms.no_arm) Acts.done nowhere
@@ -124,13 +125,13 @@ walk_at_three : after_turn (head above_zero) (walk halfʳ) (whole 1, twice) (env
 unfolding ◌+ᵛ◌ ◌*ᵛ◌ zeroᵛ oneᵛ zeroʳ oneʳ halfʳ ◌+ʳ◌ ◌-ʳ◌ ◌*ʳ◌ negʳ monusᵛ leqᵛ leqʳ ratio gcd gcd_steps
 walk_at_three = refl
 
--- At 0 it ends.
+-- At 0 the loop ends.
 walk_at_zero : after_turn (head above_zero) (walk halfʳ) (whole 1, twice) (environment (Num (whole 0) ∷ Num (whole 0) ∷ Truth false ∷ [])) Choices.stop ≡ zeroᵛ
 unfolding zeroᵛ zeroʳ leqᵛ leqʳ ratio gcd gcd_steps
 walk_at_zero = refl
 
 -- ---- Arbitrary values and picks
 
--- Whatever side they are on, they are taken upward, inside blocks too.
+-- Choices of both directions are taken upward, also inside blocks.
 taken_upward : (f : Form) → upward (both (Act.any 0 false Ty.UInt nowhere) (one (Act.pick false (one (Act.reward f nowhere)) (one (Act.pick true Acts.done (one (Act.any 0 true Ty.UInt nowhere)) nowhere)) nowhere))) ≡ both (Act.any 0 true Ty.UInt nowhere) (one (Act.pick true Acts.done (one (Act.pick true Acts.done (one (Act.any 0 true Ty.UInt nowhere)) nowhere)) nowhere))
 taken_upward f = refl

@@ -1,4 +1,4 @@
--- What a ranking's goal finds, without binders: those of the generated form alone are removed.
+-- The computed form of a ranking's goal without binders: only the generated form has binders.
 use Rattle.std.proofs.Common.{◌≡◌, ◌∙◌, ℕ, ◌+◌, ap, sym, arith, true, false, List, [], ◌++◌, append-nil}
 use Rattle.std.proofs.Math.ListN.{length}
 use Rattle.heyvl_num.specs.Rational.{Rational}
@@ -33,6 +33,5 @@ module _ (h : Head) (b : Acts) (r : Rational × Form) (plain : has_binder_in h.g
   abbrev the_goal : Form → List Ty → List (List ℕ) → ℕ → Goal
   the_goal f tys names own = record { upper = true; stated = r.1; found = f; types = tys; names = names; own = own }
 
-  -- the goal over the generated form, with the guard, is the goal over what is found
   pub goal_found : (tys : List Ty) (names : List (List ℕ)) → with_test h.guard r.0 (prenexed_goal true tys names r.1 (generated b r)) ≡ prenexed_goal true tys names r.1 (found h b r)
   goal_found tys names = ap (λ (f : Form). the_goal f (tys ++ new_types (binders (generated b r))) names (length tys)) (sym (found_prenexed (length tys))) ∙ ap (λ (bs : List Binder). the_goal (prenexed (length tys) (found h b r)) (tys ++ new_types bs) names (length tys)) (sym found_binders)

@@ -1,4 +1,5 @@
--- The goal of a ranking holds exactly where it is a ranking; it is a goal, and has few nodes and variables.
+-- The goal of a ranking holds exactly if the formula is a ranking; it is a goal, with few nodes and
+-- variables.
 use Rattle.std.proofs.Common.{◌≡◌, ◌∙◌, ◌≤◌, ◌+◌, ◌^◌, ◌||◌, ℕ, refl, sym, ap, subst, arith, Bool, true, false, cond, List, length, take}
 use Rattle.std.proofs.lemmas.List.{length-append, length-map}
 use Rattle.std.specs.Prelude.{Option, Some, if◌then◌else◌, ◌==◌}
@@ -38,7 +39,7 @@ use Rattle.ranking_rule.proofs.RankedBodies.{body_acts, loop_fits, rank_fits, up
 use Rattle.heyvl_acts.proofs.exported.UpwardMeaning.{behind}
 use Rattle.ranking_rule.proofs.ReadVariables.{body_over, guard_over, ranking_over}
 
--- ---- Types of what is found
+-- ---- The type of the computed form
 
 constant_unsigned : (x : Rational) → zeroʳ ≤ʳ x → is_unsigned (constant_type (finite x)) ≡ true
 constant_unsigned x h = go (leqʳ zeroʳ x) (x.den == 1) h.holds

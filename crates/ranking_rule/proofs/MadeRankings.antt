@@ -1,4 +1,4 @@
--- What the code makes of a loop is made of its ranking.
+-- The program's result for a loop is that for its ranking.
 use Rattle.std.proofs.Common.{◌≡◌, ◌∙◌, ◌<◌, ◌^◌, ℕ, refl, sym, ap, subst, arith, true, false, List, [], ◌∷◌, ◌++◌, map, length, get_or}
 use Rattle.std.proofs.lemmas.List.{length-map}
 use Rattle.std.proofs.lemmas.Result.{IfOk-weaker}
@@ -41,7 +41,7 @@ use Rattle.made_goals.proofs.exported.MadeGoals.{fit_as, named_as}
 use Rattle.ranking_rule.proofs.OwnVariables.{own_variables}
 use Rattle.ranking_rule.proofs.RankedBodies.{IsTurnAct, body_acts, loop_fits, rank_fits, upward_fit}
 
--- ---- Upward, the variables that take any value are the procedure's
+-- ---- Upward, only variables of the procedure take any value
 
 module _ (ps : List TypedProcedure) (p : TypedProcedure) where
   mutual
@@ -81,9 +81,8 @@ module _ (ps : List TypedProcedure) (p : TypedProcedure) (n : ℕ) (l : RankedLo
   pub loop_named : GeneratedFormIsNamed → AreNamed (length (variables p)) (binders (generated l.body l.rank))
   loop_named law = law (length (variables p)) (types_of p) (upward l.body) l.rank.1 (upward_fit ps p l.body (body_acts ps p n l rules)) (upward_below ps p l.body (body_acts ps p n l rules)) none_named
 
--- ---- What is made
+-- ---- The results
 
--- The goal over the generated form, with the guard, is the ranking's.
 made_goal : (p : TypedProcedure) (h : Head) (b : Acts) (r : Rational × Form) → has_binder_in h.guard ≡ false → with_test h.guard r.0 (goal_over true (variables p) r.1 (generated b r)) ≡ goal p h b r
 made_goal p h b r g =
     goal_found h b r g (type_list (variables p)) (all_names (variables p) (generated b r))
@@ -101,7 +100,6 @@ tested_made p h b r made.Nodes after g m t = subst (IsMadeOf p h b r) (sym t) m
 some_some : {A : Type 0} (x y : A) → Some x ≡ Some y → x ≡ y
 some_some x y e = cc
 
--- two loops of one number are one
 pub one_loop : (p : TypedProcedure) (n : ℕ) (l m : RankedLoop p n) (made : Made) → IsMadeOf p l.head l.body l.rank made → IsMadeOf p m.head m.body m.rank made
 one_loop p n l m made h = subst (λ r. IsMadeOf p m.head m.body r made) rank (subst (λ (x : Head × Acts). IsMadeOf p x.0 x.1 l.rank made) loops h)
   where

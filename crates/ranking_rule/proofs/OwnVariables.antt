@@ -20,6 +20,5 @@ three_parts (suc a) b (x ∷ l) = ap (λ n. x ∷ (take a l ++ (take b (drop a l
     more : (a b : ℕ) → suc a + b ≡ suc (a + b)
     more a b = omega arith
 
--- All variables of a procedure.
 pub own_variables : (p : TProc) → variables (procedure_of p) ≡ map variable_of p.vars.items
 own_variables p = three_parts p.inputs p.outputs (map variable_of p.vars.items)

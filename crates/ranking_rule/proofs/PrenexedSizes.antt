@@ -1,4 +1,4 @@
--- A prenexed form has as many nodes less than the form as the form has binders.
+-- The prenexed form has fewer nodes than the form, by the number of binders.
 use Rattle.std.proofs.Common.{◌≡◌, ℕ, ◌+◌, refl, arith, List, ◌++◌, length}
 use Rattle.std.proofs.lemmas.List.{length-append}
 use Prim.Native.Nat.{suc}

@@ -1,4 +1,5 @@
--- What holds of each act of a procedure holds of a loop that a number names, and of each act of its body.
+-- A property of each act of a procedure holds of the loop with a number, and of each act of its
+-- body.
 use Rattle.std.proofs.Common.{◌≡◌, ℕ, subst, Bool, true, false, cond, List, [], ◌∷◌, ◌==◌}
 use Rattle.std.specs.Prelude.{Option, Some, None}
 use Rattle.heyvl_acts.specs.Acts.{Head, Act, Acts, Arms, TypedProcedure, acts_in}
@@ -8,7 +9,7 @@ use Rattle.act_walks.specs.Loops.{loop_in}
 use Rattle.ranking_rule.specs.Rankings.{RankedLoop}
 use Rattle.heyvl_acts.proofs.exported.Each.{each_first, each_second, each_append}
 
--- ---- What holds of each act holds of those inside each
+-- ---- A property of each act holds of the acts in each
 
 module _ (P : Act → Type 0) where
   abbrev Inside : Act → Type 0
@@ -66,7 +67,6 @@ of_loop P n h b (Act.check kind f span ∷ xs) e i = of_loop P n h b xs e i.1
 of_loop P n h b (Act.validate co span ∷ xs) e i = of_loop P n h b xs e i.1
 of_loop P n h b (Act.call ys q es span ∷ xs) e i = of_loop P n h b xs e i.1
 
--- Of the loop itself, and of each act of its body.
 pub of_head : (P : Act → Type 0) (p : TypedProcedure) (n : ℕ) (l : RankedLoop p n) → Each P (in_order (acts_in p.body)) → P (Act.loop l.head l.body)
 of_head P p n l i = of_loop P n l.head l.body (in_order (acts_in p.body)) l.named i
 

@@ -1,4 +1,4 @@
--- What the static rules say of a loop with a ranking and of the acts of its body.
+-- The static rules on a loop with a ranking and on the acts of its body.
 use Rattle.std.proofs.Common.{◌≡◌, ℕ, subst, true, List}
 use Rattle.std.specs.Prelude.{Option, Some, None}
 use Rattle.heyvl_num.specs.Rational.{Rational}
@@ -14,7 +14,7 @@ use Rattle.ranking_rule.proofs.RankedActs.{of_body, of_head}
 
 -- ---- A loop with a ranking
 
--- What the rules say of an act of such a loop's body.
+-- The static rules on an act of such a loop's body.
 abbrev pub IsTurnAct : List TypedProcedure → TypedProcedure → Act → Type 0
 IsTurnAct ps p a = (HasOwnTargets p a × IsTypedAct ps p a) × (WeighsOne a × (is_rankable a ≡ true))
 

@@ -1,4 +1,5 @@
--- What acts read is over the procedure's variables, and so are the body of a loop with a ranking, its guard and its ranking.
+-- Acts read only variables of the procedure, and so do the body of a loop with a ranking, its guard
+-- and its ranking.
 use Rattle.std.proofs.Common.{◌≡◌, ◌<◌, ◌==◌, ◌||◌, ℕ, refl, sym, ap₂, ◌∙◌, subst, arith, Bool, true, false, List, [], ◌∷◌, ◌++◌, length, ⊎_elim, leb}
 use Rattle.std.proofs.lemmas.Bool.{or_cases}
 use Rattle.std.proofs.lemmas.Bool.Decides.{leb_tells}
@@ -24,7 +25,7 @@ use Rattle.heyvl_acts.specs.Upward.{upward, upward_next, upward_arms}
 use Rattle.heyvl_acts.proofs.exported.Each.{each_first, each_second, each_append, each_two}
 use Rattle.ranking_rule.proofs.RankedActs.{of_body, of_head}
 
--- ---- Without a binder each number that occurs is free
+-- ---- Without binders each variable that occurs is free
 
 both : {a b c d : Bool} → a ≡ c → b ≡ d → (a || b) ≡ (c || d)
 both e f = ap₂ (λ x y. x || y) e f
@@ -61,9 +62,9 @@ mutual
   all_free_in x (Cond.equal a b) h = let p = or_false (has_binder a) (has_binder b) h in both (all_free x a p.0) (all_free x b p.1)
   all_free_in x (Cond.ite g a b) h = let p = or_false (has_binder_in g) (has_binder_in a || has_binder_in b) h in let q = or_false (has_binder_in a) (has_binder_in b) p.1 in both (all_free_in x g p.0) (both (all_free_in x a q.0) (all_free_in x b q.1))
 
--- ---- What is visible
+-- ---- Visible variables
 
--- What is visible is one of the first variables.
+-- Each visible variable is below `n`.
 abbrev pub Bounded : ℕ → Visible → Type 0
 Bounded n v = (y : ℕ) → v y ≡ true → y < n
 
@@ -74,7 +75,6 @@ shown_all_bounded : (p : TypedProcedure) (xs : List ℕ) (v : Visible) → Each 
 shown_all_bounded p [] v o b = b
 shown_all_bounded p (x ∷ xs) v o b = shown_all_bounded p xs (shown x v) o.1 (shown_bounded (length (variables p)) x v o.0.below b)
 
--- The inputs and outputs are among the variables.
 pub interface_bounded : (p : TypedProcedure) → Bounded (length (variables p)) (interface p)
 interface_bounded p y h =
     let a = length-append p.inputs p.outputs in
@@ -86,7 +86,7 @@ interface_bounded p y h =
     below : (y n : ℕ) → leb (suc y) n ≡ true → y < n
     below y n h = grind (arith, leb_tells (suc y) n)
 
--- ---- What an act reads
+-- ---- The variables that an act reads
 
 abbrev GuardsAreOver : ℕ → Arms → Type 0
 GuardsAreOver n Arms.no_arm = Unit {0}
@@ -96,7 +96,8 @@ abbrev pub RankIsOver : ℕ → Option (Rational × Form) → Type 0
 RankIsOver n None = Unit {0}
 RankIsOver n (Some r) = IsOver n r.1
 
--- What an act reads is over the first n variables: the acts inside it aside, and the arguments of calls.
+-- The act reads only the first `n` variables. The acts in it and the arguments of calls do not
+-- count.
 abbrev pub ReadsFirst : ℕ → Act → Type 0
 ReadsFirst n (Act.set x t span) = TermIsOver n t
 ReadsFirst n (Act.draw x qs span) = PartsAreOver n qs

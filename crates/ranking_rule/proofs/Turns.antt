@@ -1,5 +1,5 @@
--- Turns of a loop, times the step, are at most the ranking: by the number of steps, for each list of acts of the body that is
--- left before the next test.
+-- The iterations of a loop, times the step, are at most the ranking: by induction on the number of
+-- steps, for each list of acts of the body that is left before the next test.
 use Rattle.std.proofs.lemmas.List.{length-map}
 use Rattle.std.proofs.Common.{◌≡◌, ◌∙◌, ℕ, ◌+◌, ◌<◌, refl, sym, ap, ap₂, subst, arith, Bool, true, false, List, [], ◌∷◌, ◌==◌}
 use Rattle.std.specs.Prelude.{length, pos, set, if◌then◌else◌, ◌+ℤ◌}
@@ -46,7 +46,7 @@ use Rattle.heyvl_acts.proofs.exported.Each.{each_first, each_second, each_join, 
 use Rattle.ranking_rule.proofs.RankedBodies.{IsTurnAct}
 use Rattle.heyvl_acts.proofs.exported.UpwardMeaning.{joined_meaning, raised_meaning}
 
--- ---- Numbers of turns
+-- ---- Numbers of iterations
 
 abbrev count : ℕ → Value
 count n = finite (ratio (pos n) 1)
@@ -62,12 +62,12 @@ count-zero = refl
 alike : (x : ℕ) → (x == x) ≡ true
 alike x = grind arith
 
--- ---- Sums that stay at most what is found
+-- ---- Sums that stay at most the values for some choices
 
 four : (a b c d : Value) → (a +ᵛ b) +ᵛ (c +ᵛ d) ≡ (a +ᵛ c) +ᵛ (b +ᵛ d)
 four a b c d = +ᵛ_assoc a b (c +ᵛ d) ∙ ap (λ u. a +ᵛ u) (sym (+ᵛ_assoc b c d) ∙ ap (λ u. u +ᵛ d) (+ᵛ_comm b c) ∙ +ᵛ_assoc c b d) ∙ sym (+ᵛ_assoc a c (b +ᵛ d))
 
--- x times e is at most what was there and v
+-- For some choices, `x` times `e` is at most `there` plus the value.
 record AtMost (e : Rational) (x there : Value) (f : Choices → Value) : Type 0 where
   choices : Choices
   most : finite e *ᵛ x ≤ᵛ there +ᵛ f choices
@@ -129,7 +129,7 @@ module _ (ps : List TypedProcedure) (p : ℕ) (h : Head) (b : Acts) (r : Rationa
   abbrev Few : Value → (ℕ → ℕ) → (Choices → Value) → Type 0
   Few x turns f = AtMost r.0 x (so_far turns) f
 
-  -- from acts of the body before the next test on
+  -- The claim from acts of the body before the next test on.
   abbrev Claim : ℕ → Type 0
   Claim n = (acts : Acts) → Fine acts → (s : List Val) → State s → (v : Value) (turns : ℕ → ℕ) (t : Tree) → Few (Total n (at (push acts tests) s v turns) t) turns (left_over acts (environment s))
 
@@ -137,11 +137,9 @@ module _ (ps : List TypedProcedure) (p : ℕ) (h : Head) (b : Acts) (r : Rationa
     from_sure : (acts : Acts) → Fine acts → (s : List Val) → State s → (v : Value) (turns : ℕ → ℕ) (ts : Forest) → Few (Spread n (sure (at (push acts tests) s v turns)) ts) turns (left_over acts (environment s))
     from_sure acts f s st v turns ts = let k = claim acts f s st v turns (first ts) in record { choices = k.choices; most = subst (λ x. finite r.0 *ᵛ x ≤ᵛ so_far turns +ᵛ left_over acts (environment s) k.choices) (sym (worth-sure (turns_in h.number) (runs ps n) (at (push acts tests) s v turns) ts)) k.most }
 
-    -- a block in front of what is left
     from_block : (block acts : Acts) → Fine block → Fine acts → (s : List Val) → State s → (v : Value) (turns : ℕ → ℕ) (ts : Forest) → Few (Spread n (sure (at (push block (push acts tests)) s v turns)) ts) turns (forward (upward block) (left_over acts) (environment s))
     from_block block acts g f s st v turns ts = subst (λ (k : Post). Few (Spread n (sure (at (push block (push acts tests)) s v turns)) ts) turns (k (environment s))) (joined_meaning block acts (value r.1)) (subst (λ is. Few (Spread n (sure (at is s v turns)) ts) turns (left_over (join block acts) (environment s))) (push_join block acts tests) (from_sure (join block acts) (each_join (IsTurnAct ps (procedure_at ps p)) block acts g f) s st v turns ts))
 
-    -- a variable takes a value
     from_put : (x : ℕ) (w : Val) → IsOwn (procedure_at ps p) x → has (types_of (procedure_at ps p) x) w ≡ true → (acts : Acts) → Fine acts → (s : List Val) → State s → (v : Value) (turns : ℕ → ℕ) (t : Tree) → Few (Total n (at (push acts tests) (set s x w) v turns) t) turns (left_over acts (put x w (environment s)))
     from_put x w o i acts f s st v turns t = subst (λ (e : Env). Few (Total n (at (push acts tests) (set s x w) v turns) t) turns (left_over acts e)) (set_env (procedure_at ps p) x w s o st) (claim acts f (set s x w) (set_state (procedure_at ps p) x w s o i st) v turns t)
 
@@ -203,7 +201,6 @@ module _ (ps : List TypedProcedure) (p : ℕ) (h : Head) (b : Acts) (r : Rationa
     counted_here : (s : List Val) (v : Value) (turns : ℕ → ℕ) → counted (at tests s v turns) h.number h.number ≡ 1 + turns h.number
     counted_here s v turns = rw (alike p, alike h.number) refl
 
-    -- the run has left the loop
     ended : (m : ℕ) (s : List Val) (v : Value) (turns : ℕ → ℕ) (t : Tree) → Total m (at [] s v turns) t ≡ count (turns h.number)
     ended zero s v turns t = ap (weighted_sum (turns_in h.number)) (runs-zero ps (at [] s v turns) t) ∙ worth-one (turns_in h.number) (at [] s v turns)
     ended (suc m) s v turns t = ap (weighted_sum (turns_in h.number)) (runs-next ps m (at [] s v turns) t) ∙ worth-one (turns_in h.number) (at [] s v turns)

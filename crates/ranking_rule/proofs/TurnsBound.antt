@@ -1,4 +1,4 @@
--- A ranking bounds the turns of its loop.
+-- A ranking bounds the expected iterations of its loop.
 use Rattle.std.proofs.Common.{subst, List}
 use Rattle.heyvl_num.specs.Value.{zeroᵛ, ◌≤ᵛ◌}
 use Rattle.heylo_formula.specs.Choices.{Choices}

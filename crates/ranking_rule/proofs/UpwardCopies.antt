@@ -1,4 +1,4 @@
--- How far the copy of acts that are taken upward, and of the arms of an If, has come.
+-- Intermediate states of the upward copy of acts, and of the arms of an if.
 use Rattle.std.proofs.Common.{◌≡◌, ◌≤◌, ◌<◌, ◌+◌, ℕ, refl, sym, ap, ◌∙◌, List, [], ◌∷◌, ◌++◌, length, get_or, drop}
 use Rattle.std.proofs.lemmas.List.{at_drop_more, drop_all}
 use Rattle.std.specs.Prelude.{Vec}
@@ -19,7 +19,6 @@ join_twice : (a b c : Acts) → join (join a b) c ≡ join a (join b c)
 join_twice Acts.done b c = refl
 join_twice (Acts.next a rest) b c = ap (λ r. Acts.next a r) (join_twice rest b c)
 
--- One more act.
 pub one_act : (xs ys : List A.Act) (a : A.Act) (p : Act) → ys ≡ xs ++ a ∷ [] → act_of a ≡ p → acts_of ys ≡ join (acts_of xs) (Acts.next p Acts.done)
 one_act xs ys a p e f = ap acts_of e ∙ (shown xs ∙ ap (λ q. join (acts_of xs) (Acts.next q Acts.done)) f)
   where
@@ -27,7 +26,7 @@ one_act xs ys a p e f = ap acts_of e ∙ (shown xs ∙ ap (λ q. join (acts_of x
     shown [] = refl
     shown (x ∷ xs) = ap (λ r. Acts.next (act_of x) r) (shown xs)
 
--- Arms, one list after the other.
+-- The arms of one list, then those of another.
 abbrev then_arms : Arms → Arms → Arms
 then_arms Arms.no_arm rest = rest
 then_arms (Arms.arm g b more) rest = Arms.arm g b (then_arms more rest)
@@ -43,7 +42,7 @@ one_arm (y ∷ xs) x rest = ap (λ r. Arms.arm (cond_of y.0) (acts_of y.1.items)
 left_over : {X : Type 0} → (xs : List X) (i : ℕ) (x : X) → i < length xs → x ≡ get_or xs i x → drop i xs ≡ x ∷ drop (i + 1) xs
 left_over xs i x lt is = at_drop_more (λ l. l) xs i x lt ∙ ap (λ y. y ∷ drop (i + 1) xs) (sym is)
 
--- What is made and what is left, taken upward, are all.
+-- The copies so far and those of the acts that are left make the copies of all acts.
 abbrev pub Turns : List A.Act → List A.Act → ℕ → Type 0
 Turns all made i = join (acts_of made) (upward (acts_of (drop i all))) ≡ upward (acts_of all)
 
@@ -69,11 +68,9 @@ arm_more all made made' i a d lt is h e guard block =
 pub arms_end : (all made : List (C.Cond × Vec A.Act Global)) (i : ℕ) → length all ≤ i → ArmTurns all made i → arms_of made ≡ upward_arms (arms_of all)
 arms_end all made i le h = sym (then_none (arms_of made)) ∙ (ap (λ l. then_arms (arms_of made) (upward_arms (arms_of l))) (sym (drop_all i all le)) ∙ h)
 
--- An act that stays as it is.
 pub stays : (made new : List A.Act) (a p : Act) → a ≡ p → upward_next p Acts.done ≡ Acts.next p Acts.done → acts_of new ≡ join (acts_of made) (Acts.next a Acts.done) → acts_of new ≡ join (acts_of made) (upward_next a Acts.done)
 stays made new a p e f h = h ∙ ap (λ r. join (acts_of made) r) (ap (λ x. Acts.next x Acts.done) e ∙ (sym f ∙ ap (λ x. upward_next x Acts.done) (sym e)))
 
--- An act that is changed.
 pub changed : (made new : List A.Act) (d : A.Act) (a p q : Act) → a ≡ p → upward_next p Acts.done ≡ Acts.next q Acts.done → new ≡ made ++ d ∷ [] → act_of d ≡ q → acts_of new ≡ join (acts_of made) (upward_next a Acts.done)
 changed made new d a p q e f g h = one_act made new d q g h ∙ ap (λ r. join (acts_of made) r) (sym f ∙ ap (λ x. upward_next x Acts.done) (sym e))
 

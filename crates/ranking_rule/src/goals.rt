@@ -18,14 +18,19 @@ use made_goals::generated_goal;
 use std::alloc::{AllocError, Global};
 use vp_generator::generated_form_means_acts;
 
-/// The goal of the ranking of a loop, by the loop's number: an upper goal that states the ranking and finds, where the guard
-/// holds, the step and what the ranking is worth after the body. Depth or Nodes comes where the form that the body makes of the
-/// ranking, with its binders, is deeper than 1,000 or has more than 200,000 nodes. Want of memory is the one error.
+/// Returns the goal of the ranking of the loop `number` of the procedure `p`: an upper goal with
+/// the ranking as its stated bound. Its computed form is, if the guard holds, the step plus the
+/// pre-expectation of the ranking over the body, otherwise 0.
+///
+/// Returns `Depth` or `Nodes` if this pre-expectation, with its binders, is more than 1,000 deep or
+/// has more than 200,000 nodes.
 pub fn ranking_goal(alloc: Global, typed: &Typed, p: u32, number: u32) -> Result<Made, AllocError>
     requires there { p < length typed.now.procs.items }
     requires rules { MeetsAllRules typed.now }
     requires ranked { RankedLoop (procedure_at (procedures_of typed.now) p) number }
-    ensures { (l : RankedLoop (procedure_at (procedures_of typed.now) p) number) → IfOk result (λ made. IsMadeOf (procedure_at (procedures_of typed.now) p) l.head l.body l.rank made) }
+    ensures { (l : RankedLoop (procedure_at (procedures_of typed.now) p) number)
+        → IfOk result
+        (λ made. IsMadeOf (procedure_at (procedures_of typed.now) p) l.head l.body l.rank made) }
 {
     let procedure = &typed.procs[p as usize];
     let Some(one) = loop_of(procedure, number) else {
@@ -40,7 +45,8 @@ pub fn ranking_goal(alloc: Global, typed: &Typed, p: u32, number: u32) -> Result
     with_test(alloc, &one.guard, *step, made)
 }
 
-/// The goal that finds, where the guard holds, the step and what the goal found, and else 0.
+/// Returns the goal in which the computed form is `step` plus that of `made` if the guard holds,
+/// otherwise 0.
 fn with_test(alloc: Global, guard: &Cond, step: Frac, made: Made) -> Result<Made, AllocError>
     ensures { IfOk result (λ tested. IsTested (cond_of guard.now) step made tested) }
 {
@@ -60,7 +66,7 @@ fn with_test(alloc: Global, guard: &Cond, step: Frac, made: Made) -> Result<Made
     }
 }
 
-/// The step and a form, where the guard holds; else 0.
+/// Returns `step` plus `form` if the guard holds, otherwise 0.
 fn tested(alloc: Global, guard: &Cond, step: Frac, form: Form) -> Result<Form, AllocError>
     ensures { IfOk result (λ made. form_of made ≡ tested (cond_of guard.now) step (form_of form)) }
 {

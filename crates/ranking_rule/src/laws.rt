@@ -1,11 +1,11 @@
-//! The laws. But for the laws that they rest on, the functions do nothing: their contracts are the laws.
+//! Laws of rankings. Each contract is a law; the functions only call the laws that theirs rests on.
 
 ghost use Rattle.ranking_rule.specs.Laws as law;
 
 use heylo_formula::types_bound_values;
 use vp_generator::{generated_form_means_acts, prenexed_goals_speak_of_choices};
 
-/// Where a formula is a ranking of a loop, it bounds the loop's expected turns.
+/// States that a ranking of a loop bounds the loop's expected iterations.
 pub fn rankings_bound_turns()
     ensures { law.RankingsBoundTurns }
 {
@@ -13,8 +13,9 @@ pub fn rankings_bound_turns()
     generated_form_means_acts();
 }
 
-/// The goal of a ranking holds exactly where it is one, and fails only in states in which it is none. It is a goal over the procedure's variables and those of binders, with
-/// few nodes where the procedure's forms are small.
+/// States that the goal of a ranking holds exactly if the formula is a ranking, and fails only in
+/// states in which it is none. The goal is over the procedure's variables and those of binders, and
+/// it has few nodes if the procedure's forms are small.
 pub fn ranking_goals_say_rankings()
     ensures holds { law.RankingGoalsHold }
     ensures failing { law.RankingGoalsFail }

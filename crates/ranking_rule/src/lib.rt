@@ -1,4 +1,6 @@
-//! Rankings of loops: their goals, and what a ranking says of runs.
+//! Rankings of loops: their goals, and the bounds on expected iterations that they prove.
+//!
+//! `AllocError` means that memory ran out.
 #![tactic(auto)]
 
 mod goals;

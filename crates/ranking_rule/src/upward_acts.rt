@@ -1,4 +1,4 @@
-//! Acts as a ranking counts them.
+//! Acts as a ranking reads them.
 
 ghost use Rattle.heyvl_acts.specs.Acts.{Acts as plain_acts, join};
 ghost use Rattle.heyvl_acts.specs.PlainActs.{act_of, acts_of};
@@ -8,8 +8,8 @@ ghost use Rattle.std.specs.Prelude.{IfOk, OnOk, ◌≡◌};
 use heyvl_acts::Act;
 use std::alloc::{AllocError, Global};
 
-/// Copies of the acts, as a ranking counts them: without rewards, and with each arbitrary value and each pick upward. Want of memory is
-/// the one error.
+/// Returns copies of the acts without rewards, in which each arbitrary value and each pick goes
+/// upward.
 #[cycle(raising)]
 pub fn upward(alloc: Global, acts: &[Act]) -> Result<Vec<Act>, AllocError>
     ensures { IfOk result (λ raised. acts_of raised.items ≡ upward (acts_of acts.now)) }
@@ -21,10 +21,11 @@ pub fn upward(alloc: Global, acts: &[Act]) -> Result<Vec<Act>, AllocError>
     Ok(raised)
 }
 
-/// The same for one act, appended.
+/// Appends the act to `raised`, without rewards and upward.
 #[cycle(raising)]
 fn add_upward(alloc: Global, raised: &mut Vec<Act>, act: &Act) -> Result<(), AllocError>
-    ensures { OnOk result (acts_of raised.new.items ≡ join (acts_of raised.old.items) (upward_next (act_of act.now) plain_acts.done)) }
+    ensures { OnOk result (acts_of raised.new.items
+        ≡ join (acts_of raised.old.items) (upward_next (act_of act.now) plain_acts.done)) }
 {
     match act {
         Act::Reward(_, _) => Ok(()),
@@ -58,9 +59,10 @@ fn add_upward(alloc: Global, raised: &mut Vec<Act>, act: &Act) -> Result<(), All
     }
 }
 
-/// A copy of the act, appended.
+/// Appends a copy of the act.
 fn add_copy(alloc: Global, raised: &mut Vec<Act>, act: &Act) -> Result<(), AllocError>
-    ensures { OnOk result (acts_of raised.new.items ≡ join (acts_of raised.old.items) (plain_acts.next (act_of act.now) plain_acts.done)) }
+    ensures { OnOk result (acts_of raised.new.items
+        ≡ join (acts_of raised.old.items) (plain_acts.next (act_of act.now) plain_acts.done)) }
 {
     raised.push(act.copy(alloc)?)?;
     Ok(())

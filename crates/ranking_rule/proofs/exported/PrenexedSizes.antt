@@ -1,2 +1,2 @@
--- Meant for the proofs of other crates. A prenexed form has as many nodes less than the form as the form has binders.
+-- For other crates: the prenexed form has fewer nodes than the form, by the number of binders.
 pub use Rattle.ranking_rule.proofs.PrenexedSizes.{nodes_unbound}

@@ -1,2 +1,3 @@
--- Meant for the proofs of other crates. What holds of each act of a procedure holds of a loop that a number names, and of its body.
+-- For other crates: a property of each act of a procedure holds of the loop with a number, and of
+-- its body.
 pub use Rattle.ranking_rule.proofs.RankedActs.{of_head, of_body}

@@ -11,10 +11,11 @@ decreases-upward l = 1 + weight_of (acts_of l.acts.now)
 abbrev pub decreases-add_upward : goal.decreases-add_upward
 decreases-add_upward l = weight (act_of l.act.now)
 
--- What is made and what is left, taken upward, are all.
+-- The copies so far and those of the acts that are left make the copies of all acts.
 abbrev pub invariant-upward-loop-act : goal.invariant-upward-loop-act
 invariant-upward-loop-act l = Turns l.acts l.raised.items l.act-index
 
--- The same for arms; and the act is the If of these arms.
+-- The copied arms so far and those that are left make all arms, and the act is the if of these
+-- arms.
 abbrev pub invariant-add_upward-loop-arm : goal.invariant-add_upward-loop-arm
 invariant-add_upward-loop-arm l = ArmTurns l.arm-items l.blocks.items l.arm-index × (act_of l.act ≡ Act.ifs (arms_of l.arm-items) (acts_of l.other.items) l.span)
