@@ -1,4 +1,4 @@
--- What the rules say of the acts of a weak proc that is a program and has one loop.
+-- The static rules on the acts of a proc with `@wlp` that is a program and has one loop.
 use Rattle.std.proofs.Common.{◌≡◌, ◌+◌, refl, sym, subst, Bool, true, false, not, ◌||◌, List, [], ◌∷◌, ◌++◌}
 use Rattle.std.specs.Prelude.{Option, Some, None, if◌then◌else◌}
 use Rattle.heyvl_num.specs.Rational.{oneʳ}
@@ -43,7 +43,7 @@ plain_program p h = go p.body refl h
 
 -- ---- Acts
 
--- no check, no reward, no loop and no call; picks go downward
+-- The act is no check, no reward, no loop and no call; if it is a pick, it goes downward.
 abbrev pub IsCalm : TypedProcedure → Act → Type 0
 IsCalm p (Act.set x t span) = IsOwn p x × TermFits (types_of p) (types_of p x) t
 IsCalm p (Act.draw x qs span) = IsOwn p x × (DrawFits (types_of p) x qs × (total_weight qs ≡ oneʳ))
@@ -60,7 +60,7 @@ IsCalm p (Act.call xs q es span) = ⊥
 abbrev pub AreCalm : TypedProcedure → Acts → Type 0
 AreCalm p acts = Each (IsCalm p) (in_order acts)
 
--- what the rules say of an act
+-- The static rules on an act.
 abbrev pub Ruled : List TypedProcedure → TypedProcedure → Act → Type 0
 Ruled ps p a = (HasOwnTargets p a × IsTypedAct ps p a) × (WeighsOne a × FollowsDirection ps p a)
 

@@ -1,5 +1,5 @@
--- A weak proc with one loop by hand: `d = false`, and then `while !d { d = flip(1/2) }`. Its runs of at most m turns take 2m + 2 steps at
--- most.
+-- A proc with `@wlp` and one loop by hand: `d = false`, and then `while !d { d = flip(1/2) }`. Its
+-- runs of at most m iterations take at most 2m + 2 steps.
 use Rattle.std.proofs.Common.{◌≡◌, refl, true, false, [], ◌∷◌, pos}
 use Rattle.std.specs.Prelude.{Some, None, length}
 use Rattle.heyvl_num.specs.Rational.{Rational, ratio}
@@ -52,11 +52,13 @@ two_j = record { name = []; co = false; weak = false; inputs = record { name = [
 two_are_a_pair : IsOmegaPair two head two_j
 two_are_a_pair = record { proc = refl; bodiless = refl; no_outputs = refl; inputs = refl }
 
--- Its first input stands for the variable d of the first procedure, and its last one for the variable behind those.
+-- Its first input means the variable d of the first procedure, and its last one the variable after
+-- d.
 formula_of_two : formula_of two head two_j ≡ Form.select (Cond.flag 0) (Form.number oneᵛ) (Form.variable 1)
 formula_of_two = refl
 
--- With a turn more, while d is false, it is at most what the body makes of it; else it is at most the post.
+-- With one more iteration, the larger side is the pre-expectation over the body while d is false,
+-- otherwise the post.
 turn_of_two : greater two head body Acts.done (formula_of two head two_j) Step.Turn ≡ Form.select (Cond.not (Cond.flag 0)) (Form.sum (Form.scale half (Form.select (Cond.constant true) (Form.number oneᵛ) (Form.variable 1))) (Form.scale half (Form.select (Cond.constant false) (Form.number oneᵛ) (Form.variable 1)))) (Form.iverson (Cond.flag 0))
 unfolding Replaced.subst
 turn_of_two = refl
@@ -69,6 +71,7 @@ base_of_two : (smaller 1 (formula_of two head two_j) Step.Base ≡ Form.select (
 unfolding Replaced.subst
 base_of_two = (refl, refl)
 
--- A scope with gaps: the inputs stand for the variables 0 and 2, and the number of turns is behind all three.
+-- A scope with gaps: the inputs mean the variables 0 and 2, and the number of iterations follows
+-- all three.
 places_with_gaps : (x : TypedProcedure) → places x (record head { scope = 0 ∷ 2 ∷ [] }) ≡ 0 ∷ 2 ∷ length (variables x) ∷ []
 places_with_gaps x = refl

@@ -1,5 +1,6 @@
--- The two sides of each goal of an omega pair: they are formulas over the goal's variables, only the greater one has binders, which are
--- named after the first procedure's variables, and both are small enough to be decided.
+-- The two sides of each goal of an omega pair. They are formulas over the goal's variables. Only
+-- the larger one has binders, which are named after variables of the first procedure. Both are
+-- small enough to be decided.
 use Rattle.std.proofs.Common.{◌≡◌, ◌∙◌, ◌<◌, ◌≤◌, ◌+◌, ◌*◌, ◌^◌, ◌==◌, ◌||◌, ℕ, refl, sym, ap, subst, arith, Bool, true, false, cond, List, [], ◌∷◌, ◌++◌, length}
 use Rattle.std.specs.Prelude.{Option, Some}
 use Prim.Native.Nat.{suc}
@@ -70,7 +71,7 @@ guarded : (b : Bool) (t : Option NumberType) → b ≡ true → is_unsigned t �
 guarded true t e h = h
 guarded false t e h = absurd (cc)
 
--- ---- Terms that are put in for the number of turns
+-- ---- Terms that are substituted for the number of iterations
 
 abbrev pub no_turn : Term
 no_turn = Term.number (Form.number zeroᵛ)
@@ -162,7 +163,7 @@ module _ (ps : List TypedProcedure) (p : TypedProcedure) (rules : MeetsRules ps 
     greater_typed made law Base = guarded (is_well_typed (types_in tys) l.head.guard) (joined (constant_type zeroᵛ) (type_of (types_in tys) (after_loop p l.behind))) (guard_typed ps p rules l (types_in tys) (own_types p tys are)) (joins (constant_type zeroᵛ) (type_of (types_in tys) (after_loop p l.behind)) zero_unsigned (loop_typed made))
     greater_typed made law Turn = guarded (is_well_typed (types_in tys) l.head.guard) (joined (type_of (types_in tys) (after_body l.body (formula_of p l.head q))) (type_of (types_in tys) (after_loop p l.behind))) (guard_typed ps p rules l (types_in tys) (own_types p tys are)) (joins (type_of (types_in tys) (after_body l.body (formula_of p l.head q))) (type_of (types_in tys) (after_loop p l.behind)) (body_typed made law) (loop_typed made))
 
-    -- ---- Terms that are put in are plain
+    -- ---- The substituted terms have no binders
 
     pub no_turn_plain : IsPlain no_turn
     no_turn_plain = term_plain (types_in tys) (types_in tys (length (variables p))) no_turn (no_turn_fits (types_in tys) (length (variables p)) (turn_type p tys are))
@@ -201,7 +202,6 @@ module _ (ps : List TypedProcedure) (p : TypedProcedure) (rules : MeetsRules ps 
   smaller_few within law Base = let a = formula_nodes ps p rules l q q_rules pair within in let b = put_nodes (length (variables p)) no_turn (formula_of p l.head q) (omega arith) (omega arith) (formula_plain ps p rules l q q_rules pair law) in omega (arith, a, b)
   smaller_few within law Turn = let a = formula_nodes ps p rules l q q_rules pair within in let b = put_nodes (length (variables p)) (one_more (length (variables p))) (formula_of p l.head q) (omega arith) (omega arith) (formula_plain ps p rules l q q_rules pair law) in omega (arith, a, b)
 
-  -- the forms that have limits are small
   pub greater_few : FormsWithin (2 ^ 27) p → (step : Step) → Each IsSmall (limited p l.body l.behind (formula_of p l.head q) step) → nodes (greater p l.head l.body l.behind (formula_of p l.head q) step) ≤ 1 + (2 ^ 27 + (200000 + 200000))
   greater_few within One small = omega arith
   greater_few within Base small = let g = guard_nodes ps p rules l within in let a = small.0.few in omega (arith, g, a)

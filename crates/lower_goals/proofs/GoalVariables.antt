@@ -1,4 +1,4 @@
--- The variables of the goals of an omega pair: the first procedure's, and one of type UInt behind them.
+-- The variables of the goals of an omega pair: the first procedure's, then one of type UInt.
 use Rattle.std.proofs.Common.{◌≡◌, ◌∙◌, ◌<◌, ◌≤◌, ◌+◌, ℕ, refl, sym, ap, subst, arith, List, [], ◌∷◌, ◌++◌, map, length, drop, get_or}
 use Rattle.std.proofs.lemmas.List.{length-append, length-map}
 use Prim.Native.Nat.{zero, suc}
@@ -31,7 +31,6 @@ as_many p = length-map (variables p) (λ (v : Variable). v.ty)
 pub goal_types : (p : TypedProcedure) (h : Head) (q : TypedProcedure) → IsOmegaPair p h q → type_list (goal_variables p h q) ≡ type_list (variables p) ++ Ty.UInt ∷ []
 goal_types p h q pair = types_append (variables p) (drop (length h.scope) q.inputs) ∙ ap (λ l. type_list (variables p) ++ l) (tail_types h.scope (types_of p) q.inputs pair.inputs)
 
--- The inputs of the second procedure are as many as the variables for which they stand.
 pub inputs_length : (p : TypedProcedure) (h : Head) (q : TypedProcedure) → IsOmegaPair p h q → length q.inputs ≡ suc (length h.scope)
 inputs_length p h q pair =
     let a = length-map q.inputs (λ (v : Variable). v.ty) in
@@ -85,6 +84,5 @@ place_type f g n [] (suc y) h a t l = absurd (omega (arith, l))
 place_type f g n (x ∷ xs) zero h a t l = a x h.0
 place_type f g n (x ∷ xs) (suc y) h a t l = place_type f g n xs y h.1 a t (omega (arith, l))
 
--- The variable for which an input of the second procedure stands has the input's type.
 pub position_type : (p : TypedProcedure) (h : Head) (q : TypedProcedure) (tys : List Ty) → IsOmegaPair p h q → tys ≡ type_list (variables p) ++ Ty.UInt ∷ [] → Each (λ x. x < length (variables p)) h.scope → (y : ℕ) → y < length q.inputs → types_in tys (by_position (places p h) y) ≡ types_in (type_list q.inputs) y
 position_type p h q tys pair are e y l = place_type (types_in tys) (types_of p) (length (variables p)) h.scope y e (own_types p tys are) (turn_type p tys are) (subst (λ n. y < n) (inputs_length p h q pair) l) ∙ ap (λ ts. types_in ts y) (sym pair.inputs)

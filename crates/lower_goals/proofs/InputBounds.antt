@@ -1,4 +1,4 @@
--- Whether a procedure gives a bound over the inputs of another one.
+-- The test whether a procedure gives a bound over the inputs of another one.
 use Rattle.std.proofs.Common.{◌≡◌, ◌∙◌, ◌≤◌, ◌<◌, ◌+◌, ℕ, refl, sym, ap, ap₂, arith, true, List, [], ◌∷◌, length, get_or, take, drop, map}
 use Rattle.std.proofs.lemmas.List.{at_drop_more, drop_all, length-map, length-drop}
 use Rattle.std.specs.List.{take-map}
@@ -21,7 +21,7 @@ inputs_are n l m e = ap (λ x. map variable_of (take n x)) e ∙ sym (take-map v
 
 -- ---- Types in order
 
--- The types of the variables from a place on.
+-- The types of the variables from index `k` on.
 abbrev pub types_from : List VarInfo → ℕ → List Ty
 types_from vs k = type_list (map variable_of (drop k vs))
 
@@ -41,7 +41,6 @@ module _ (xs ys : List VarInfo) (k : ℕ) (x y : VarInfo) (lx : k < length xs) (
   both_from : Same xs ys k → y.ty ∷ types_from ys (k + 1) ≡ x.ty ∷ types_from xs (k + 1)
   both_from h = sym (type_at ys k y ly y_is) ∙ (h ∙ type_at xs k x lx x_is)
 
-  -- Where the types at the place differ, they don't all agree.
   pub differ_there : (x.ty ≡ y.ty → ⊥) → (Same xs ys 0 → Same xs ys k) → Same xs ys 0 → ⊥
   differ_there d to h = d (sym (first_type y.ty x.ty (types_from ys (k + 1)) (types_from xs (k + 1)) (both_from (to h))))
 
@@ -51,7 +50,6 @@ module _ (xs ys : List VarInfo) (k : ℕ) (x y : VarInfo) (lx : k < length xs) (
   pub agree_behind : (Same xs ys 0 → Same xs ys k) → Same xs ys 0 → Same xs ys (k + 1)
   agree_behind to h = other_types y.ty x.ty (types_from ys (k + 1)) (types_from xs (k + 1)) (both_from (to h))
 
--- No variable is left.
 pub nothing_left : (xs ys : List VarInfo) (k : ℕ) → length xs ≡ length ys → length xs ≤ k → Same xs ys k
 nothing_left xs ys k e l = ap (λ r. type_list (map variable_of r)) (drop_all k ys (omega (arith, e, l)) ∙ sym (drop_all k xs l))
 

@@ -17,7 +17,7 @@ use Rattle.lower_goals.specs.internal.Shapes.{HasNoLoop, IsNoLoop, all_straight,
 use Rattle.lower_goals.proofs.UniqueLoops.{no_loop_in, same_parts, straight_no_loops}
 use Rattle.heyvl_acts.proofs.exported.ActsInOrder.{acts_from, arms_from, next_act, next_arm}
 
--- ---- Whether acts are straight
+-- ---- Whether acts are neither loops nor calls
 
 one_straight : (a : Act) → is_straight a ≡ true → IsStraight a
 one_straight (Act.loop h b) e = absurd (cc)
@@ -68,7 +68,6 @@ pub all_append : (xs ys : List Act) → all_straight (xs ++ ys) ≡ (all_straigh
 all_append [] ys = refl
 all_append (x ∷ xs) ys = ap (λ b. is_straight x && b) (all_append xs ys) ∙ and_assoc (is_straight x) (all_straight xs) (all_straight ys)
 
--- What is straight in front leaves the rest; what isn't decides.
 pub past : (xs ys : List Act) → true ≡ all_straight xs → all_straight ys ≡ all_straight (xs ++ ys)
 past xs ys h = sym (all_append xs ys ∙ ap (λ b. b && all_straight ys) (sym h))
 
@@ -87,7 +86,7 @@ arm_bent arms k e x lt is h = bent (in_order (acts_of x.1.items)) (arms_from arm
 pub arm_past : (arms : List (C.Cond × Vec A.Act Global)) (k : ℕ) (e : List Act) (x : C.Cond × Vec A.Act Global) → k < length arms → x ≡ get_or arms k x → true ≡ all_straight (in_order (acts_of x.1.items)) → all_straight (arms_from arms (k + 1) e) ≡ all_straight (arms_from arms k e)
 arm_past arms k e x lt is h = past (in_order (acts_of x.1.items)) (arms_from arms (k + 1) e) h ∙ ap all_straight (sym (next_arm arms k e x lt is))
 
--- ---- The acts that the program holds, taken apart at a place
+-- ---- The program's acts, taken apart at an index
 
 whole_at : (xs : List A.Act) (i : ℕ) (x : A.Act) → i < length xs → x ≡ get_or xs i x → acts_of xs ≡ join (acts_of (take i xs)) (Acts.next (act_of x) (acts_of (drop (suc i) xs)))
 whole_at [] i x lt is = absurd (omega (arith, lt))
@@ -108,7 +107,6 @@ none_before xs i x lt is h n = let e : suc i ≡ i + 1 = omega arith in subst (�
 pub whole_loop : (xs : List A.Act) (i : ℕ) (x : A.Act) (h : Head) (b : Acts) → i < length xs → x ≡ get_or xs i x → act_of x ≡ Act.loop h b → acts_of xs ≡ join (acts_of (take i xs)) (Acts.next (Act.loop h b) (acts_of (drop (i + 1) xs)))
 whole_loop xs i x h b lt is e = whole_here xs i x lt is ∙ ap (λ a. join (acts_of (take i xs)) (Acts.next a (acts_of (drop (i + 1) xs)))) e
 
--- the acts behind the loop, as the program takes them
 rest_all : (xs : List A.Act) (k : ℕ) → take (length xs - k) (drop k xs) ≡ drop k xs
 rest_all xs k = take_all (length xs - k) (drop k xs) (let d = length-drop k xs in omega (arith, d))
 
@@ -129,7 +127,7 @@ none_at_all p acts e n l = no_loop_in acts l.front l.head l.body l.behind n (sym
 pub bodiless : (p : TypedProcedure) → p.body ≡ None → OneLoop p → ⊥
 bodiless p e l = none_at_all p Acts.done (ap acts_in e) tt l
 
--- ---- What is answered
+-- ---- The answer
 
 module _ (p : TypedProcedure) (front : Acts) (h : Head) (b behind : Acts) (whole : acts_in p.body ≡ join front (Acts.next (Act.loop h b) behind)) (none : HasNoLoop front) (weak : p.weak ≡ true) (program : IsProgram p) where
   abbrev three : Bool

@@ -1,4 +1,4 @@
--- What the program finds of two procedures by their numbers.
+-- The pair that the program finds of two procedures by their numbers.
 use Rattle.std.proofs.Common.{◌≡◌, ◌<◌, ℕ, sym, subst, arith, List, [], ◌∷◌, length, get_or}
 use Prim.Native.Nat.{zero, suc}
 use Rattle.heyvl_acts.specs.Acts.{TypedProcedure, procedure_at}

@@ -1,4 +1,5 @@
--- What holds of each act of a body holds of its loop, and of each act before it, in it and behind it.
+-- A property of each act of a body holds of its loop, and of each act before it, in it and after
+-- it.
 use Rattle.std.proofs.Common.{◌≡◌, ◌∙◌, refl, sym, ap, subst, List, ◌∷◌, ◌++◌, append_assoc}
 use Rattle.heyvl_acts.specs.Acts.{Act, Acts, TypedProcedure, acts_in, join}
 use Rattle.heyvl_acts.specs.Places.{in_order, inside}
@@ -12,7 +13,7 @@ in_order-join (Acts.next a rest) b = ap (λ l. a ∷ l) (ap (λ l. inside a ++ l
 
 -- ---- The four parts
 
--- What holds of all acts, part by part.
+-- A property of all acts, part by part.
 pub record OfParts (P : Act → Type 0) (p : TypedProcedure) (l : OneLoop p) : Type 0 where
   pub front : Each P (in_order l.front)
   pub loop : P (Act.loop l.head l.body)

@@ -1,4 +1,4 @@
--- What is made of the parts that the program lends of a remainder pair.
+-- Results for the borrowed parts of a remainder pair.
 use Rattle.std.proofs.Common.{◌≡◌, ◌∙◌, ◌<◌, ◌^◌, ℕ, sym, ap, subst, arith, List, length, get_or, map}
 use Rattle.std.proofs.lemmas.List.{length-map}
 use Rattle.std.proofs.lemmas.Result.{IfOk-weaker}
@@ -86,6 +86,5 @@ module _ (typed : Typed) (p q : ℕ) (parts : RankedParts) (all : MeetsAllRules 
   pub is_fit : AreFit (upward front) (form_of parts.ranking.now)
   is_fit = start_fit ps one other front rank start
 
--- The goal of a pair is that of its parts.
 pub whole_goal : (p q : TypedProcedure) (parts : RankedParts) → IsPairAs p q parts → (l : RemainderPair p q) (m : Made) → IsMadeWithin (generated (acts_of parts.front.now) (parts.step, form_of parts.ranking.now)) (start_goal p (acts_of parts.front.now) (parts.step, form_of parts.ranking.now) q.pre) m → IsMadeWithin (generated l.loop.front l.rank) (start_goal p l.loop.front l.rank q.pre) m
 whole_goal p q parts is l m h = subst (λ acts. IsMadeWithin (generated acts l.rank) (start_goal p acts l.rank q.pre) m) (sym is.front ∙ one_front p q is.pair l) (subst (λ r. IsMadeWithin (generated (acts_of parts.front.now) r) (start_goal p (acts_of parts.front.now) r q.pre) m) (sym is.rank ∙ one_rank p q is.pair l) h)

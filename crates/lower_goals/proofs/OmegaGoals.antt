@@ -1,4 +1,4 @@
--- The goals of an omega pair are those of any way to take its first procedure apart.
+-- The goals of an omega pair do not depend on how its first procedure is taken apart.
 use Rattle.std.proofs.Common.{◌≡◌, sym, subst, ℕ}
 use Rattle.heylo_formula.specs.declared.goals.Made.{Made}
 use Rattle.heyvl_acts.specs.Acts.{Acts, Head, TypedProcedure, procedure_at}
@@ -14,7 +14,8 @@ use Rattle.lower_goals.specs.LentOmegaPairs.{IsMadeStep, IsPairAt, behind, body,
 use Rattle.lower_goals.proofs.ReadyPairs.{the_loop}
 use Rattle.lower_goals.proofs.UniqueLoops.{unique_loops}
 
--- This is made of the goal of a step of two procedures, the first one with this loop and these acts behind it.
+-- The result for the goal of a step of two procedures, where the first one has this loop, and these
+-- acts after it.
 abbrev IsMadeOf : TypedProcedure → TypedProcedure → Head → Acts → Acts → Step → Made → Type 0
 IsMadeOf p q h b after step m = IsMadeFor (step_goal p h b after q step) (limited p b after (formula_of p h q) step) m
 

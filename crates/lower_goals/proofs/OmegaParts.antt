@@ -1,4 +1,5 @@
--- What the rules say of the parts of an omega pair, where types are given to the first procedure's variables and to the number of turns.
+-- The static rules on the parts of an omega pair, with types for the first procedure's variables
+-- and for the number of iterations.
 use Rattle.std.proofs.Common.{◌≡◌, ◌∙◌, ◌<◌, ◌≤◌, ◌^◌, ℕ, refl, sym, ap, subst, arith, true, false, List, [], ◌∷◌, ◌++◌, append_assoc, length}
 use Rattle.std.proofs.lemmas.List.{length-append}
 use Prim.Native.Nat.{zero, suc}
@@ -72,7 +73,7 @@ module _ (ps : List TypedProcedure) (p : TypedProcedure) (rules : MeetsRules ps 
       loop_within : ActWithin (2 ^ 27) (Act.loop l.head l.body) → nodes_in l.head.guard ≤ 2 ^ 27
       loop_within h = h.1.0
 
-  -- ---- The variables that are visible at the loop
+  -- ---- The visible variables at the loop
 
   pub scope_below : Each (λ x. x < length (variables p)) l.head.scope
   scope_below = let m : OfParts (LoopsMeet p) p l = of_parts (LoopsMeet p) p l rules.loops in below m.loop

@@ -1,4 +1,4 @@
--- What the program tests of two procedures is that they are an omega pair.
+-- The program's test of two procedures is that they are an omega pair.
 use Rattle.std.proofs.Common.{◌≡◌, ◌∙◌, ◌<◌, ◌≤◌, ◌+◌, ℕ, refl, sym, ap, arith, List, [], ◌∷◌, ◌++◌, map, length, take, drop, get_or}
 use Rattle.std.proofs.lemmas.List.{length-map, length-drop, length-take}
 use Rattle.std.specs.List.{take-map}
@@ -82,7 +82,7 @@ abbrev first_of : Ty → List Ty → Ty
 first_of d [] = d
 first_of d (t ∷ ts) = t
 
--- The rest of the inputs has the types that are wanted of it exactly where all have those that are wanted of them.
+-- The inputs that are left have the types required of them exactly if all inputs have theirs.
 pub record AreLeft (own : List VarInfo) (inputs : List VarInfo) (scope : List ℕ) (rest : List VarInfo) (left : List ℕ) : Type 0 where
   pub all : types_of_variables rest ≡ wanted own left → types_of_variables inputs ≡ wanted own scope
   pub some : types_of_variables inputs ≡ wanted own scope → types_of_variables rest ≡ wanted own left
@@ -106,7 +106,6 @@ no_input own inputs scope rest left e h k = none left (sym (ap types_of_variable
 pub other_type : (own inputs : List VarInfo) (scope : List ℕ) (rest more : List VarInfo) (v : VarInfo) (left less : List ℕ) (x : ℕ) → rest ≡ v ∷ more → left ≡ x ∷ less → (v.ty ≡ types_in (types_of_variables own) x → ⊥) → AreLeft own inputs scope rest left → types_of_variables inputs ≡ wanted own scope → ⊥
 other_type own inputs scope rest more v left less x e f n h k = n (ap (λ ts. first_of Ty.Bool ts) (sym (ap types_of_variables e) ∙ (h.some k ∙ ap (λ xs. wanted own xs) f)))
 
--- the type of a variable by its number
 pub type_at : (vs : List VarInfo) (x : ℕ) (v : VarInfo) → x < length vs → v ≡ get_or vs x v → v.ty ≡ types_in (types_of_variables vs) x
 type_at [] x v l is = absurd (omega (arith, l))
 type_at (u ∷ vs) zero v l is = ap (λ (w : VarInfo). w.ty) is
@@ -132,7 +131,6 @@ variable_at [] k v l is = absurd (omega (arith, l))
 variable_at (u ∷ vs) zero v l is = ap variable_of is
 variable_at (u ∷ vs) (suc k) v l is = variable_at vs k v (omega (arith, l)) is
 
--- The variables of the pair's goals.
 pub goal_variables_are : (x y : TProc) (h : Head) (own : List VarInfo) (all : List VarInfo) (v last : VarInfo) → length (procedure_of y).inputs ≡ suc (length h.scope) → length h.scope < length y.vars.items → v ≡ get_or y.vars.items (length h.scope) v → map variable_of own ≡ map variable_of x.vars.items → variable_of last ≡ variable_of v → all ≡ own ++ last ∷ [] → map variable_of all ≡ variables (procedure_of x) ++ drop (length h.scope) (procedure_of y).inputs
 goal_variables_are x y h own all v last l lt is e f a =
     ap (λ vs. map variable_of vs) a
@@ -145,7 +143,6 @@ goal_variables_are x y h own all v last l lt is e f a =
     behind [] = refl
     behind (u ∷ vs) = ap (λ l. variable_of u ∷ l) (behind vs)
 
--- The last input of the second procedure is one of its variables.
 pub last_there : (y : TProc) (n : ℕ) → length (procedure_of y).inputs ≡ suc n → n < length y.vars.items
 last_there y n h =
     let e = length-take y.inputs (map variable_of y.vars.items) in

@@ -1,4 +1,4 @@
--- What the program makes of two procedures of a file is the pair that they are.
+-- The program's result for two procedures of a file is their pair.
 use Rattle.std.proofs.Common.{◌≡◌, ◌∙◌, ◌<◌, ◌≤◌, ◌+◌, ◌^◌, ℕ, sym, ap, subst, arith, List, [], ◌∷◌, ◌++◌, length, get_or}
 use Rattle.std.proofs.lemmas.List.{length-append}
 use Rattle.heylo_formula.specs.Formula.{Form}
@@ -22,7 +22,7 @@ use Rattle.lower_goals.proofs.OmegaParts.{scope_below}
 use Rattle.lower_goals.proofs.ReadyPairs.{held_at, scope_few, vars_few, vars_length}
 use Rattle.lower_goals.proofs.UniqueLoops.{unique_loops}
 
--- ---- The variables that are visible at the loop
+-- ---- The visible variables at the loop
 
 module _ (file : List TypedProcedure) (x : TProc) (rules : MeetsRules file (procedure_of x)) (l : OneLoop (procedure_of x)) where
   pub scope_at : Each (λ k. k < length x.vars.items) l.head.scope
@@ -36,7 +36,6 @@ module _ (file : List TypedProcedure) (x : TProc) (rules : MeetsRules file (proc
 
 -- ---- The formula
 
--- the places, and what is asked of them
 pub places_near : (xs : List ℕ) (n : ℕ) → n < 1000 → Each (λ k. k < n) xs → Each (λ k. k < 1000) (xs ++ n ∷ [])
 places_near xs n l h = each_place n 1000 xs l h
 
@@ -64,7 +63,6 @@ module _ (typed : Typed) (p q : ℕ) (x y : TProc) (rules : MeetsAllRules typed)
   pub second_rules : MeetsRules (procedures_of typed) (procedure_of y)
   second_rules = held_at (MeetsRules (procedures_of typed)) typed.procs.items q y rules.each there y_is
 
-  -- the loop that is found is that of the procedure that the program holds
   pub loop_at : (front : Acts) (h : Head) (b behind : Acts) → IsOneLoop (procedure_at (procedures_of typed) p) front h b behind → IsOneLoop (procedure_of x) front h b behind
   loop_at front h b behind is = subst (λ (a : TypedProcedure). IsOneLoop a front h b behind) (procedure_is typed.procs.items p x here x_is) is
 
@@ -85,14 +83,13 @@ module _ (typed : Typed) (p q : ℕ) (x y : TProc) (rules : MeetsAllRules typed)
     second_is = procedure_is typed.procs.items q y there y_is ∙ ap procedure_of (sym f);
   }
 
-  -- Where the second procedure gives no formula for the loop that is found, the two are no pair.
   pub no_pair : (front : Acts) (h : Head) (b behind : Acts) → IsOneLoop (procedure_of x) front h b behind → (IsOmegaPair (procedure_of x) h (procedure_of y) → ⊥) → OmegaPair (procedure_at (procedures_of typed) p) (procedure_at (procedures_of typed) q) → ⊥
   no_pair front h b behind is none o = at (subst (λ (a : TypedProcedure). OmegaPair a (procedure_of y)) (procedure_is typed.procs.items p x here x_is) (subst (λ (a : TypedProcedure). OmegaPair (procedure_at (procedures_of typed) p) a) (procedure_is typed.procs.items q y there y_is) o))
     where
       at : OmegaPair (procedure_of x) (procedure_of y) → ⊥
       at k = none (subst (λ g. IsOmegaPair (procedure_of x) g (procedure_of y)) (unique_loops (procedure_of x) k.loop (record { front = front; head = h; body = b; behind = behind; is = is })).head_is k.pair)
 
-  -- what is asked where the formula is made
+  -- The requirements for making the formula.
   module _ (front : Acts) (h : Head) (b behind : Acts) (found : IsOneLoop (procedure_at (procedures_of typed) p) front h b behind) where
     abbrev the_loop : OneLoop (procedure_of x)
     the_loop = record { front = front; head = h; body = b; behind = behind; is = loop_at front h b behind found }

@@ -1,4 +1,5 @@
--- Formulas without binders over other variables, by position: moved away all at once, and then renamed one by one.
+-- Formulas without binders over other variables, by position: all variables are moved at once, and
+-- then renamed one by one.
 use Rattle.std.proofs.Common.{◌≡◌, ◌∙◌, ◌<◌, ◌+◌, ◌==◌, ◌||◌, ℕ, refl, sym, ap, ap₂, subst, arith, Bool, true, false, cond, length}
 use Rattle.heylo_formula.specs.BinderNames.{binders, binders_in}
 use Rattle.heylo_formula.specs.Binders.{has_binder, has_binder_in}
@@ -23,7 +24,7 @@ right_free false b h = h
 alike : (x : ℕ) → (x == x) ≡ true
 alike x = grind arith
 
--- ---- Moved away
+-- ---- Moved
 
 mutual
   pub shifted_is : (d n : ℕ) (f : Form) → has_binder f ≡ false → shifted d f ≡ unbound (λ y. d + y) n f
@@ -135,7 +136,6 @@ mutual
 
 -- ---- Variables
 
--- what holds of each part's variables holds of those of both
 two : (a b : Bool) (x k : ℕ) → (a ≡ true → x < k) → (b ≡ true → x < k) → (a || b) ≡ true → x < k
 two true b x k f g h = f refl
 two false b x k f g h = g h

@@ -1,4 +1,5 @@
--- Variables that are moved away, and then renamed one by one to those at their positions, stand at their positions.
+-- Variables that are moved, and then renamed one by one to those at their positions, end at their
+-- positions.
 use Rattle.std.proofs.Common.{◌≡◌, ◌∙◌, ◌<◌, ◌≤◌, ◌+◌, ◌==◌, ℕ, refl, ap, arith, Bool, true, false, cond, List, [], ◌∷◌, length, take, get_or}
 use Rattle.std.proofs.lemmas.List.{take_all}
 use Prim.Native.Nat.{zero, suc}
@@ -57,7 +58,7 @@ moved_step (x ∷ xs) d w u zero (suc y) near lt le e = pick_second (w == u) x u
 moved_step (x ∷ xs) d w u (suc i) zero near lt le e = pick_second (w == x) (get_or xs i 0) x (above w x d near.0 le)
 moved_step (x ∷ xs) d w u (suc i) (suc y) near lt le e = moved_step xs d w u i y near.1 (omega (arith, lt)) le (e ∙ next_same i y)
 
--- The variables at the first positions are placed, the others are still away.
+-- The variables at the first positions are placed, the others are still moved.
 abbrev pub IsMoved : ℕ → List ℕ → ℕ → Form → Form → Type 0
 IsMoved d xs i f g = g ≡ unbound (λ y. get_or (take i xs) y (d + y)) 0 f
 
@@ -66,7 +67,6 @@ move_more d xs i w z f g h plain near lt ew ez m e =
     let n : suc i ≡ i + 1 = omega arith in
     e ∙ (ap (λ v. renamed v z g) ew ∙ (ap (λ v. renamed (d + i) v g) ez ∙ (ap (λ v. renamed (d + i) (get_or xs i 0) v) m ∙ (renamed_is (d + i) (get_or xs i 0) 0 (λ y. get_or (take i xs) y (d + y)) (λ y. get_or (take (suc i) xs) y (d + y)) f plain (λ y j. moved_step xs d (d + i) (d + y) i y near lt (omega arith) (same_sum d i y)) ∙ ap (λ k. unbound (λ y. get_or (take k xs) y (d + y)) 0 f) n))))
 
--- At a position that there is nothing stands for what isn't there.
 get_any : (xs : List ℕ) (y u v : ℕ) → y < length xs → get_or xs y u ≡ get_or xs y v
 get_any [] y u v lt = absurd (omega (arith, lt))
 get_any (x ∷ xs) zero u v lt = refl

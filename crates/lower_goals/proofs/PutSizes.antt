@@ -1,4 +1,4 @@
--- A small term that is put in makes a form three times as large at most.
+-- Substituting a term of at most three nodes makes a form at most three times as large.
 use Rattle.std.proofs.Common.{◌≡◌, ◌≤◌, ◌*◌, ◌==◌, ◌||◌, ℕ, arith, Bool, true, false, cond}
 use Rattle.heylo_formula.specs.Binders.{has_binder, has_binder_in}
 use Rattle.heylo_formula.specs.Formula.{Form, Cond}

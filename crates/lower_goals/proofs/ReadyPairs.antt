@@ -1,4 +1,4 @@
--- What is asked of a pair's parts where they are used follows from what the rules say of its procedures.
+-- The requirements on a pair's parts follow from the static rules on its procedures.
 use Rattle.std.proofs.Common.{◌≡◌, ◌∙◌, ◌<◌, ◌≤◌, ◌+◌, ◌^◌, ℕ, sym, ap, subst, arith, List, [], ◌∷◌, ◌++◌, map, length, get_or}
 use Rattle.std.proofs.lemmas.List.{length-map}
 use Rattle.std.specs.List.{Contains}
@@ -39,7 +39,6 @@ use Rattle.loop_encodings.proofs.exported.OwnVariables.{own_variables}
 
 -- ---- The procedures of a file
 
--- What holds of each procedure of a file holds of the one that the program holds.
 pub held_at : (P : TypedProcedure → Type 0) (procs : List TProc) (p : ℕ) (x : TProc) → Each P (map procedure_of procs) → p < length procs → x ≡ get_or procs p x → P (procedure_of x)
 held_at P procs p x all lt is = subst P (procedure_is procs p x lt is) (each_at P (map procedure_of procs) p all (let l = length-map procs procedure_of in omega (arith, l, lt)))
 
@@ -88,7 +87,6 @@ module _ (x : Pair) (r : IsReady x) where
   pub turn_ready : PrenexedFormIsFormula → AreFit (body x) (formula_of (first x) (head x) (second x))
   turn_ready law = body_ready r.file (first x) r.rules the_loop (second x) r.other_rules r.pair (type_list (goal_variables (first x) (head x) (second x))) tys_are law
 
-  -- no acts
   pub none_ready : PrenexedFormIsFormula → AreFit Acts.done (formula_of (first x) (head x) (second x))
   none_ready law = let f = turn_ready law in record { types = f.types; fit = tt; formula = f.formula }
 
@@ -123,7 +121,7 @@ module _ (x : Pair) (r : IsReady x) where
         let d = r.rules.few_variables in
         omega (arith, a, b, c, d)
 
-  -- ---- What is made
+  -- ---- The results
 
   pub limited_step : (step : Step) (why : VpStop) (m : Made) (f : Form) → Contains (limited (first x) (body x) (behind x) (formula_of (first x) (head x) (second x)) step) f → IsStop f why → IsLimitBy why m → IsMadeStep x step m
   limited_step step stop.Depth m f listed h e = subst (λ k. IsMadeStep x step k) (sym e) (IsMadeFor.too_deep f listed h)

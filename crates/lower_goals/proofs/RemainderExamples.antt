@@ -1,5 +1,5 @@
--- A remainder pair by hand: `d = false`, and then `while !d { d = flip(1/2) }` with the ranking `ite(d, 0, 2)` of step 1, and a coproc
--- whose pre is 2.
+-- A remainder pair by hand: `d = false`, and then `while !d { d = flip(1/2) }` with the ranking
+-- `ite(d, 0, 2)` of step 1, and a coproc whose pre is 2.
 use Rattle.std.proofs.Common.{◌≡◌, refl, true, false, [], ◌∷◌, pos}
 use Rattle.std.specs.Prelude.{Some, None}
 use Rattle.heyvl_num.specs.Rational.{Rational, ratio}
@@ -41,11 +41,12 @@ pair = record {
   bound = record { upper = refl; no_body = refl; no_output = refl; inputs = refl };
 }
 
--- A procedure with outputs and a body bounds nothing, and one that isn't a coproc neither.
+-- A procedure with outputs and a body gives no bound, and neither does one that is no coproc.
 no_pair : RemainderPair two two → ⊥
 no_pair r = absurd (let e = r.bound.upper in cc)
 
--- The goal: 2 is at least what the assignment makes of the ranking, which is 2 where the guard holds. Its variable is d.
+-- The goal: 2 is at least the pre-expectation of the ranking over the assignment, which is 2 if the
+-- guard holds. Its variable is d.
 found_by_hand : generated plain.front rank ≡ Form.select (Cond.constant false) (Form.number zeroᵛ) two_turns
 unfolding Replaced.subst
 found_by_hand = refl

@@ -1,4 +1,4 @@
--- The parts that the program lends are those of a remainder pair.
+-- The borrowed parts are those of a remainder pair.
 use Rattle.std.proofs.Common.{◌≡◌, ◌∙◌, refl, sym, ap}
 use Rattle.std.specs.Prelude.{Option, Some, None}
 use Rattle.heylo_formula.specs.PlainTrees.{form_of}
@@ -30,7 +30,6 @@ module _ (p q : TypedProcedure) (bound : IsInputBound p q) (l : LoopParts) (is :
   }
   ranked_pair None h = λ r. no_rank lent.head.rank r.loop.head.rank r.rank h (ap (λ (x : Head). x.rank) (unique_loops p lent r.loop).head_is) r.ranked
 
--- The other ways to be none.
 pub no_bound : (p q : TypedProcedure) → (IsInputBound p q → ⊥) → RemainderPair p q → ⊥
 no_bound p q n r = n r.bound
 

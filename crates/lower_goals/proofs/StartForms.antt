@@ -1,4 +1,5 @@
--- The acts before the loop of a remainder pair, taken upward, fit its ranking, and binders are named after variables.
+-- The acts before the loop of a remainder pair, taken upward, are well typed before its ranking,
+-- and binders are named after variables.
 use Rattle.std.proofs.Common.{ℕ, sym, subst, List, length}
 use Rattle.heyvl_num.specs.Rational.{Rational}
 use Rattle.heylo_formula.specs.BinderNames.{binders}

@@ -1,4 +1,5 @@
--- What the rules say of the acts before the loop of a remainder pair, of its ranking, and of the bound.
+-- The static rules on the acts before the loop of a remainder pair, on its ranking, and on the
+-- bound.
 use Rattle.std.proofs.Common.{◌≡◌, refl, sym, ap, subst, ◌∙◌, arith, true, List, [], ◌∷◌, ◌++◌, length}
 use Rattle.std.proofs.lemmas.List.{length-append, length-map}
 use Rattle.std.specs.Prelude.{Some}
@@ -37,8 +38,8 @@ all_rankable : (p : TypedProcedure) (acts : List Act) → Each (IsCalm p) acts �
 all_rankable p [] h = tt
 all_rankable p (a ∷ rest) h = (rankable p a h.0, all_rankable p rest h.1)
 
--- What the goal rests on: the acts may be taken upward and read the procedure's variables, the ranking is one over them, and the
--- bound is over the inputs.
+-- The conditions for the goal: the acts may be taken upward and read only variables of the
+-- procedure, the ranking is a formula over them, and the bound is over the inputs.
 pub record IsStart (ps : List TypedProcedure) (p q : TypedProcedure) (front : Acts) (r : Rational × Form) : Type 0 where
   pub turns : Each (IsTurnAct ps p) (in_order front)
   pub reads : Each (ReadsFirst (length (variables p))) (in_order front)
@@ -58,7 +59,6 @@ is_start ps p q rules pair = record {
     acts : List Act
     acts = in_order pair.loop.front
 
--- The same for equal acts and an equal ranking.
 pub start_as : (ps : List TypedProcedure) (p q : TypedProcedure) (front front' : Acts) (r r' : Rational × Form) → front ≡ front' → r ≡ r' → IsStart ps p q front r → IsStart ps p q front' r'
 start_as ps p q front front' r r' e f h = subst (λ acts. IsStart ps p q acts r') e (subst (λ x. IsStart ps p q front x) f h)
 
@@ -68,7 +68,6 @@ module _ (ps : List TypedProcedure) (p q : TypedProcedure) (bound : IsInputBound
   as_many_inputs : length q.inputs ≡ length p.inputs
   as_many_inputs = sym (length-map q.inputs (λ (v : Variable). v.ty)) ∙ (ap length bound.inputs ∙ length-map p.inputs (λ (v : Variable). v.ty))
 
-  -- It is a formula over the other's variables.
   pub bound_formula : IsFormula (types_of p) q.pre
   bound_formula = ap is_unsigned (same_types q.pre (types_of p) (types_in (type_list q.inputs)) (λ y e. front_same p.inputs (p.outputs ++ p.locals) y (let l = rules.pre_over y e in let m = as_many_inputs in omega (arith, l, m)) ∙ ap (λ ts. types_in ts y) (sym bound.inputs))) ∙ rules.pre.0
 

@@ -1,4 +1,4 @@
--- What the generator answers of the parts of a pair, as the goals of a step ask for it.
+-- The results of the generator for the parts of a pair, as the goals of a step need them.
 use Rattle.std.proofs.Common.{◌≡◌, ◌∙◌, ◌<◌, ◌+◌, ◌^◌, map, refl, sym, ap, ap₂, subst, arith, List, [], ◌∷◌, length}
 use Rattle.std.specs.List.{Contains}
 use Rattle.heylo_formula.specs.BinderNames.{binders}
@@ -37,7 +37,6 @@ first_of f rest = (0, omega arith, refl)
 second_of : (e f : Form) → Contains (e ∷ f ∷ []) f
 second_of e f = (1, omega arith, refl)
 
--- where the acts and the form that are given are others by name alone
 same_vp : (acts acts' : Acts) (f f' : Form) → acts ≡ acts' → f ≡ f' → vp acts f ≡ vp acts' f'
 same_vp acts acts' f f' a e = ap₂ (λ x y. vp x y) a e
 

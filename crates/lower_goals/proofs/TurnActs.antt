@@ -1,5 +1,6 @@
--- What the rules say of the acts of a weak proc with one loop: they are well typed where the variables behind the procedure's own are
--- typed too, and read and bind the procedure's variables alone.
+-- The static rules on the acts of a proc with `@wlp` and one loop: they are well typed also if the
+-- variables after the procedure's have types, and they read and bind only variables of the
+-- procedure.
 use Rattle.std.proofs.Common.{◌≡◌, ◌∙◌, ◌<◌, ◌≤◌, ℕ, refl, sym, ap, subst, arith, Bool, true, false, List, [], ◌∷◌}
 use Rattle.std.proofs.Math.ListN.{length}
 use Rattle.heyvl_num.specs.Rational.{Rational}
@@ -34,7 +35,7 @@ free_occurs_in y g h = go (occurs_in y g) refl
     go true e = refl
     go false e = absurd (let k = sym h ∙ unused_free_in y g e in cc)
 
--- ---- What the rules say of an act
+-- ---- The static rules on an act
 
 abbrev pub IsTurnAct : List TypedProcedure → TypedProcedure → Act → Type 0
 IsTurnAct ps p a = IsCalm p a × (IsTypedAct ps p a × ReadsFirst (length (variables p)) a)
@@ -89,7 +90,8 @@ module _ (ps : List TypedProcedure) (p : TypedProcedure) where
       arms_fit Arms.no_arm e span g r i = tt
       arms_fit (Arms.arm c b more) e span g r i = (cond_type c r.0 ∙ g.0, (acts_fit b (each_first Good (in_order b) (inside_arms more) i), arms_fit more e span g.1 r.1 (each_second Good (in_order b) (inside_arms more) i)))
 
-  -- ---- Variables that are read, and variables that take any value, are among the first ones, so many as there are or more
+  -- ---- Variables that are read, and variables that take any value, are below the number of the
+  -- procedure's variables
 
   module _ (m : ℕ) (more : length (variables p) ≤ m) where
     term_over : (t : Term) → TermIsOver (length (variables p)) t → TermIsOver m t

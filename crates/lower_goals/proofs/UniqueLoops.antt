@@ -1,4 +1,5 @@
--- A body has one loop in one way: the acts before it, the loop and the acts behind it are the same ones.
+-- A body has one loop in only one way: the acts before it, the loop and the acts after it are
+-- unique.
 use Rattle.std.proofs.Common.{◌≡◌, ◌∙◌, refl, sym, ap, subst}
 use Rattle.heyvl_acts.specs.Acts.{Head, Act, Acts, TypedProcedure, join}
 use Rattle.heyvl_acts.specs.Places.{in_order, inside}
@@ -69,7 +70,6 @@ pub straight_no_loops : (acts : Acts) → Each IsStraight (in_order acts) → Ha
 straight_no_loops Acts.done s = tt
 straight_no_loops (Acts.next a rest) s = (straight_no_loop a s.0, straight_no_loops rest (each_second IsStraight (inside a) (in_order rest) s.1))
 
--- no loop is the first act behind them
 pub no_loop_in : (acts front : Acts) (h : Head) (b behind : Acts) → HasNoLoop acts → acts ≡ join front (Acts.next (Act.loop h b) behind) → ⊥
 no_loop_in acts Acts.done h b behind n e = (subst HasNoLoop e n).0
 no_loop_in Acts.done (Acts.next a front) h b behind n e = absurd (cc)
@@ -77,7 +77,7 @@ no_loop_in (Acts.next c acts) (Acts.next a front) h b behind n e = no_loop_in ac
 
 -- ---- The parts
 
--- Two ways to take a body apart are one.
+-- Two ways to take a body apart are the same.
 pub record AreSame (front : Acts) (h : Head) (b behind front' : Acts) (h' : Head) (b' behind' : Acts) : Type 0 where
   pub front_is : front ≡ front'
   pub head_is : h ≡ h'
@@ -95,6 +95,5 @@ same_parts (Acts.next a front) h b behind (Acts.next c front') h' b' behind' n m
     let f = same_first a c (join front (Acts.next (Act.loop h b) behind)) (join front' (Acts.next (Act.loop h' b') behind')) e in
     record { front_is = ap (λ x. Acts.next x front) f ∙ ap (λ x. Acts.next c x) r.front_is; head_is = r.head_is; body_is = r.body_is; behind_is = r.behind_is }
 
--- The parts of a procedure with one loop are the same ones.
 pub unique_loops : (p : TypedProcedure) (l m : OneLoop p) → AreSame l.front l.head l.body l.behind m.front m.head m.body m.behind
 unique_loops p l m = same_parts l.front l.head l.body l.behind m.front m.head m.body m.behind (straight_no_loops l.front l.is.plain_front) (straight_no_loops m.front m.is.plain_front) (sym l.is.whole ∙ m.is.whole)

@@ -1,5 +1,5 @@
--- When two procedures are no pair, and which limit a goal of a pair passes: at the loop `while !d { d = flip(1/2) }` each holds of one
--- pair and not of another.
+-- Two procedures that are no pair, and goals of a pair that exceed a limit. Each of these holds of
+-- one pair at the loop `while !d { d = flip(1/2) }`, and not of another.
 use Rattle.std.proofs.Common.{◌≡◌, ◌<◌, ◌+◌, ◌^◌, ℕ, suc, zero, refl, sym, subst, true, false, [], ◌∷◌, arith}
 use Rattle.std.specs.List.{Contains}
 use Rattle.std.specs.Prelude.{Some, None, slice_index_or}
@@ -26,7 +26,7 @@ head = record { number = 1; k = 1; inv = Form.number oneᵛ; guard = Cond.not (C
 abbrev two : TypedProcedure
 two = record { name = []; co = false; weak = true; inputs = []; outputs = record { name = []; ty = Ty.Bool } ∷ []; locals = []; pre = Form.number oneᵛ; post = plain.post; body = Some (Acts.next (Act.set 0 plain.set_false plain.nowhere) (Acts.next (Act.loop head plain.body) Acts.done)); loops = 1; span = plain.nowhere }
 
--- A formula for its loop, over d and the number of turns.
+-- A formula for its loop, over d and the number of iterations.
 abbrev formula : Form → TypedProcedure
 formula f = record { name = []; co = false; weak = false; inputs = record { name = []; ty = Ty.Bool } ∷ record { name = []; ty = Ty.UInt } ∷ []; outputs = []; locals = []; pre = f; post = Form.number zeroᵛ; body = None; loops = 0; span = plain.nowhere }
 
@@ -45,7 +45,7 @@ no_omega_pair r = let e = r.pair.bodiless in cc
 
 -- ---- Limits
 
--- A sum of 0 and n zeros.
+-- A sum of 0 and `n` zeros.
 deep : ℕ → Form
 deep zero = Form.number zeroᵛ
 deep (suc n) = Form.sum (deep n) (Form.number zeroᵛ)
@@ -55,7 +55,7 @@ unfolding deep
 deep_depth zero = refl
 deep_depth (suc n) = omega (arith, deep_depth n)
 
--- Sums of two equal forms, n times.
+-- Sums of two equal forms, nested `n` times.
 large : ℕ → Form
 large zero = Form.number zeroᵛ
 large (suc n) = Form.sum (large n) (large n)
@@ -80,7 +80,7 @@ goal_is_too_deep g = too_deep (deep 1000) (0, omega arith, refl) (omega (arith, 
 goal_is_not_too_deep : (g : Goal) → IsMadeFor g (limited two plain.body Acts.done (Form.variable 1) Step.One) made.Depth → ⊥
 goal_is_not_too_deep g (too_deep f c d) = let l = subst (λ h. 1000 < depth h) (sym (contained (Form.variable 1) f c)) d in absurd (omega arith)
 
--- A goal with a formula of 262,143 nodes is too large.
+-- A goal with a formula of 262,143 nodes exceeds the limit.
 goal_is_too_large : (g : Goal) → IsMadeFor g (limited two plain.body Acts.done (large 17) Step.One) made.Nodes
 goal_is_too_large g = too_many (large 17) (0, omega arith, refl) (omega (arith, large_nodes 17))
 

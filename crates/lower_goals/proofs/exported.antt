@@ -1,4 +1,4 @@
--- Lemmas that are meant for the proofs of other crates. All else in proofs/ is private to this crate.
+-- Lemmas for the proofs of other crates. Everything else in `proofs/` is private to this crate.
 pub mod LoopParts
 pub mod Calm
 pub mod GoalVariables

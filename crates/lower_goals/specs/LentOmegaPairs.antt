@@ -1,5 +1,6 @@
--- Omega pairs, as the program lends them, and what is made of their goals.
--- Source: this project's own.
+-- Omega pairs as the program borrows them, and the results for their goals. An omega pair is a proc
+-- with `@wlp` and one loop, and a second procedure whose pre is a formula over the loop's variables
+-- and the number of iterations. This project's own.
 use Rattle.std.specs.Prelude.{◌≡◌, ◌^◌, ℕ, List, Option, Some, None}
 use Rattle.heylo_formula.specs.PlainTrees.{form_of}
 use Rattle.heylo_formula.specs.declared.goals.Made.{Made}
@@ -16,27 +17,28 @@ use Rattle.lower_goals.specs.LimitedGoals.{IsMadeFor}
 use Rattle.lower_goals.specs.declared.answers.Step.{Step}
 use Rattle.lower_goals.specs.declared.pairs.Pair.{Pair}
 
--- The first procedure.
+-- The first procedure of the pair, which has the loop.
 abbrev pub first : Pair → TypedProcedure
 first x = procedure_of x.procedure.now
 
--- What stands at the head of its loop.
+-- The head of the first procedure's loop.
 abbrev pub head : Pair → Head
 head x = head_of x.one.now
 
--- The acts in the loop.
+-- The body of the first procedure's loop.
 abbrev pub body : Pair → Acts
 body x = acts_of x.one.now.body.items
 
--- The acts behind the loop.
+-- The acts of the first procedure after its loop.
 abbrev pub behind : Pair → Acts
 behind x = acts_of x.behind.now
 
--- The second procedure.
+-- The second procedure of the pair, whose pre is the formula.
 abbrev pub second : Pair → TypedProcedure
 second x = procedure_of x.other.now
 
--- Both procedures meet the rules of some file, their forms aren't too large, they are an omega pair, and the formula is theirs.
+-- `IsReady x`: the two procedures of `x` satisfy the static rules of some file, their forms have at
+-- most 2^27 nodes, they are an omega pair, and `x.formula` is its formula.
 pub record IsReady (x : Pair) : Type 0 where
   pub file : List TypedProcedure
   pub rules : MeetsRules file (first x)
@@ -48,17 +50,21 @@ pub record IsReady (x : Pair) : Type 0 where
   pub pair : IsOmegaPair (first x) (head x) (second x)
   pub formula : form_of x.formula ≡ formula_of (first x) (head x) (second x)
 
--- The pair that two procedures of a file are.
+-- `IsPairAt typed p q x`: `x` is the omega pair of the procedures with the numbers `p` and `q`.
 pub record IsPairAt (typed : Typed) (p q : ℕ) (x : Pair) : Type 0 where
   pub ready : IsReady x
   pub first_is : procedure_at (procedures_of typed) p ≡ first x
   pub second_is : procedure_at (procedures_of typed) q ≡ second x
 
--- They are that pair, or they are none.
+-- `IsPairOf typed p q result`: `result` is the omega pair of the procedures with the numbers `p`
+-- and `q`, or `None` if they are no omega pair.
 abbrev pub IsPairOf : Typed → ℕ → ℕ → Option Pair → Type 0
 IsPairOf typed p q (Some x) = IsPairAt typed p q x
-IsPairOf typed p q None = OmegaPair (procedure_at (procedures_of typed) p) (procedure_at (procedures_of typed) q) → ⊥
+IsPairOf typed p q None =
+    OmegaPair (procedure_at (procedures_of typed) p) (procedure_at (procedures_of typed) q) → ⊥
 
--- This is made of the goal of a step.
+-- `IsMadeStep x step m`: `m` is the goal of `step` for the pair `x`, or a limit that one of its
+-- forms exceeds.
 abbrev pub IsMadeStep : Pair → Step → Made → Type 0
-IsMadeStep x step m = IsMadeFor (step_goal (first x) (head x) (body x) (behind x) (second x) step) (limited (first x) (body x) (behind x) (formula_of (first x) (head x) (second x)) step) m
+IsMadeStep x step m = IsMadeFor (step_goal (first x) (head x) (body x) (behind x) (second x) step)
+    (limited (first x) (body x) (behind x) (formula_of (first x) (head x) (second x)) step) m

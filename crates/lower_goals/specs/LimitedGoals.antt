@@ -1,5 +1,4 @@
--- What is made of upper goals for which forms have limits.
--- Source: this project's own.
+-- Results for upper goals of which some forms have limits. This project's own.
 use Rattle.std.specs.List.{Contains}
 use Rattle.std.specs.Prelude.{◌≡◌, List}
 use Rattle.heylo_formula.specs.Formula.{Form}
@@ -10,7 +9,8 @@ use Rattle.heylo_formula.specs.declared.goals.Made.{Made}
 use Rattle.heyvl_acts.specs.Rules.{Each}
 use Rattle.vp_generator.specs.Limits.{IsSmall, IsTooDeep, IsTooLarge}
 
--- What is made of a goal for which these forms have limits: the goal, where none of them passes one, or a limit that one of them passes.
+-- The result is the goal, and each of the forms is within the limits; or it is a limit that one of
+-- the forms exceeds.
 pub data IsMadeFor (g : Goal) (forms : List Form) : Made → Type 0 where
   whole : (h : declared.Goal) → goal_of h ≡ g → Each IsSmall forms → IsMadeFor g forms (made.Goal h)
   too_deep : (f : Form) → Contains forms f → IsTooDeep f → IsMadeFor g forms made.Depth

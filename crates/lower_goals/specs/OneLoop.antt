@@ -1,5 +1,5 @@
--- Weak procs with one loop, and how many steps their runs of few turns take.
--- Source: this project's own.
+-- Procs with `@wlp` and one loop, and the number of steps of their runs with few iterations. This
+-- project's own.
 use Rattle.std.specs.Prelude.{◌≡◌, ◌+◌, ◌*◌, ℕ, true}
 use Rattle.heyvl_acts.specs.Acts.{Head, Act, Acts, TypedProcedure, acts_in, join}
 use Rattle.heyvl_acts.specs.Length.{length_of}
@@ -8,9 +8,10 @@ use Rattle.heyvl_acts.specs.Program.{IsProgram}
 use Rattle.heyvl_acts.specs.Rules.{Each}
 use Rattle.heyvl_acts.specs.Straight.{IsStraight}
 
--- A weak proc that is a program, whose body is these acts, this loop and those acts behind it, with neither loop nor call in these and
--- in the loop's body.
-pub record IsOneLoop (p : TypedProcedure) (front : Acts) (head : Head) (body behind : Acts) : Type 0 where
+-- The procedure `p` has `@wlp` and is a program. Its body is the acts `front`, one loop, and the
+-- acts `behind`. Neither these nor the loop's body contain a loop or a call.
+pub record IsOneLoop (p : TypedProcedure) (front : Acts) (head : Head) (body behind : Acts)
+    : Type 0 where
   pub whole : acts_in p.body ≡ join front (Acts.next (Act.loop head body) behind)
   pub plain_front : Each IsStraight (in_order front)
   pub plain_body : Each IsStraight (in_order body)
@@ -18,7 +19,7 @@ pub record IsOneLoop (p : TypedProcedure) (front : Acts) (head : Head) (body beh
   pub weak : p.weak ≡ true
   pub program : IsProgram p
 
--- Such a procedure: the acts before its loop, the loop, and the acts behind it.
+-- A procedure with one loop: the acts before the loop, the loop, and the acts after it.
 pub record OneLoop (p : TypedProcedure) : Type 0 where
   pub front : Acts
   pub head : Head
@@ -26,10 +27,11 @@ pub record OneLoop (p : TypedProcedure) : Type 0 where
   pub behind : Acts
   pub is : IsOneLoop p front head body behind
 
--- How many steps a run of at most m turns takes at most, from the loop's test on.
+-- The largest number of steps of a run with at most `m` iterations, from the loop's test on.
 abbrev pub steps_from_test : Acts → Acts → ℕ → ℕ
 steps_from_test body behind m = m * (1 + length_of body) + (1 + length_of behind)
 
--- How many steps a run of at most m turns takes at most, from the start of the procedure on.
+-- The largest number of steps of a run with at most `m` iterations, from the start of the
+-- procedure.
 abbrev pub steps : Acts → Acts → Acts → ℕ → ℕ
 steps front body behind m = length_of front + steps_from_test body behind m

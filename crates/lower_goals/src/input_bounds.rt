@@ -1,4 +1,4 @@
-//! Bounds over the inputs of a procedure, given by another one.
+//! Bounds over the inputs of a procedure that another procedure gives.
 
 ghost use Rattle.heyvl_acts.specs.Acts.{type_list};
 ghost use Rattle.heyvl_acts.specs.PlainActs.{procedure_of, variable_of};
@@ -8,25 +8,29 @@ ghost use Rattle.std.specs.Prelude.{None, false, map, true, ◌≡◌};
 
 use heyvl_acts::{TProc, VarInfo};
 
-/// Whether the second procedure is a coproc without body and outputs, whose inputs have, in order, the types of those of the first.
+/// Returns whether `bound` is a coproc without body and outputs whose inputs have the types of
+/// those of `procedure`, in order.
 pub(crate) fn is_input_bound(procedure: &TProc, bound: &TProc) -> bool
     requires first { IsCounted procedure.now }
     requires second { IsCounted bound.now }
-    ensures yes { result ≡ true → IsInputBound (procedure_of procedure.now) (procedure_of bound.now) }
-    ensures no { result ≡ false → IsInputBound (procedure_of procedure.now) (procedure_of bound.now) → ⊥ }
+    ensures yes { result ≡ true
+        → IsInputBound (procedure_of procedure.now) (procedure_of bound.now) }
+    ensures no { result ≡ false → IsInputBound (procedure_of procedure.now) (procedure_of bound.now)
+        → ⊥ }
 {
     is_bare_coproc(bound) && same_types(inputs_of(procedure), inputs_of(bound))
 }
 
-/// Whether it is a coproc without body and outputs.
 fn is_bare_coproc(bound: &TProc) -> bool
-    ensures yes { result ≡ true → (bound.now.co ≡ true) × ((bound.now.body ≡ None) × (bound.now.outputs ≡ 0)) }
-    ensures no { result ≡ false → (bound.now.co ≡ true) × ((bound.now.body ≡ None) × (bound.now.outputs ≡ 0)) → ⊥ }
+    ensures yes { result ≡ true → (bound.now.co ≡ true)
+        × ((bound.now.body ≡ None) × (bound.now.outputs ≡ 0)) }
+    ensures no { result ≡ false → (bound.now.co ≡ true)
+        × ((bound.now.body ≡ None) × (bound.now.outputs ≡ 0)) → ⊥ }
 {
     bound.co && bound.body.is_none() && bound.outputs == 0
 }
 
-/// The inputs of a procedure.
+/// Returns the inputs of a procedure.
 fn inputs_of(procedure: &TProc) -> &[VarInfo]
     requires { IsCounted procedure.now }
     ensures { map variable_of result.now ≡ (procedure_of procedure.now).inputs }
@@ -35,10 +39,12 @@ fn inputs_of(procedure: &TProc) -> &[VarInfo]
     &procedure.vars[..count]
 }
 
-/// Whether as many variables have, in order, the same types.
+/// Returns whether the variables have the same types, in order.
 fn same_types(first: &[VarInfo], second: &[VarInfo]) -> bool
-    ensures yes { result ≡ true → type_list (map variable_of second.now) ≡ type_list (map variable_of first.now) }
-    ensures no { result ≡ false → type_list (map variable_of second.now) ≡ type_list (map variable_of first.now) → ⊥ }
+    ensures yes { result ≡ true
+        → type_list (map variable_of second.now) ≡ type_list (map variable_of first.now) }
+    ensures no { result ≡ false
+        → type_list (map variable_of second.now) ≡ type_list (map variable_of first.now) → ⊥ }
 {
     if first.len() != second.len() {
         return false;

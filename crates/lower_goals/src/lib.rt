@@ -1,4 +1,7 @@
-//! Pairs of procedures that claim lower bounds of weak procs with one loop: their goals, and what may be answered of them.
+//! Pairs of procedures that claim lower bounds of procs with `@wlp` and one loop: their goals, and
+//! the answers on them.
+//!
+//! `AllocError` means that memory ran out.
 #![tactic(auto)]
 
 mod answers;

@@ -1,4 +1,4 @@
-//! The goals of an omega pair, for whoever names their variables.
+//! The goals of an omega pair, for functions that name their variables.
 
 ghost use Rattle.heyvl_acts.specs.Acts.{procedure_at};
 ghost use Rattle.heyvl_acts.specs.FormSizes.{FormsWithin};
@@ -16,8 +16,8 @@ use heylo_formula::Made;
 use heyvl_acts::Typed;
 use std::alloc::{AllocError, Global};
 
-/// The goal of a step of an omega pair, or a limit that one of its forms passes. Both are numbers of procedures of the file. Want of memory
-/// is the one error.
+/// Returns the goal of a step of the omega pair of the procedures `p` and `q`, or a limit that one
+/// of its forms exceeds.
 pub fn omega_goal(
     alloc: Global,
     typed: &Typed,
@@ -29,8 +29,17 @@ pub fn omega_goal(
     requires second { q < length typed.now.procs.items }
     requires rules { MeetsAllRules typed.now }
     requires small { Each (FormsWithin (2 ^ 27)) (procedures_of typed.now) }
-    requires pair { OmegaPair (procedure_at (procedures_of typed.now) p) (procedure_at (procedures_of typed.now) q) }
-    ensures { (l : OmegaPair (procedure_at (procedures_of typed.now) p) (procedure_at (procedures_of typed.now) q)) → IfOk result (λ made. IsMadeFor (step_goal (procedure_at (procedures_of typed.now) p) l.loop.head l.loop.body l.loop.behind (procedure_at (procedures_of typed.now) q) step) (limited (procedure_at (procedures_of typed.now) p) l.loop.body l.loop.behind (formula_of (procedure_at (procedures_of typed.now) p) l.loop.head (procedure_at (procedures_of typed.now) q)) step) made) }
+    requires pair { OmegaPair (procedure_at (procedures_of typed.now) p)
+        (procedure_at (procedures_of typed.now) q) }
+    ensures { (l : OmegaPair (procedure_at (procedures_of typed.now) p)
+        (procedure_at (procedures_of typed.now) q))
+        → IfOk result
+        (λ made. IsMadeFor
+        (step_goal (procedure_at (procedures_of typed.now) p) l.loop.head l.loop.body l.loop.behind
+        (procedure_at (procedures_of typed.now) q) step)
+        (limited (procedure_at (procedures_of typed.now) p) l.loop.body l.loop.behind
+        (formula_of (procedure_at (procedures_of typed.now) p) l.loop.head
+        (procedure_at (procedures_of typed.now) q)) step) made) }
 {
     match pair_of(alloc, typed, p, q)? {
         Some(pair) => step_goal(alloc, &pair, step),

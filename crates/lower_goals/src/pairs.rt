@@ -1,4 +1,4 @@
-//! Omega pairs: a weak proc with one loop, and a procedure that gives a formula for it.
+//! Omega pairs: a proc with `@wlp` and one loop, and a procedure that gives a formula for it.
 
 ghost use Rattle.heylo_formula.specs.PlainTrees.{form_of};
 ghost use Rattle.heyvl_acts.proofs.exported.PlainActsAre.{head_of};
@@ -17,7 +17,8 @@ use heylo_formula::{Form, Ty};
 use heyvl_acts::{Act, LoopAct, TProc, Typed, VarInfo};
 use std::alloc::{AllocError, Global};
 
-/// A pair: the first procedure with its loop and the acts behind it, the second procedure, and the formula that it gives.
+/// An omega pair: the first procedure, its loop and the acts after it, the second procedure, and
+/// its formula.
 #[derive(Drop)]
 pub struct Pair<'a> {
     pub procedure: &'a TProc,
@@ -27,7 +28,7 @@ pub struct Pair<'a> {
     pub formula: Form,
 }
 
-/// The pair that two procedures are; none exactly where they are none.
+/// Returns the omega pair of the procedures `p` and `q`, or `None` exactly if they are none.
 pub fn pair_of<'a>(
     alloc: Global,
     typed: &'a Typed,
@@ -58,7 +59,7 @@ pub fn pair_of<'a>(
     }))
 }
 
-/// The formula that the second procedure gives for the loop of the first one.
+/// Returns the formula that the second procedure gives for the loop of the first one.
 fn formula_for(
     alloc: Global,
     procedure: &TProc,
@@ -69,19 +70,22 @@ fn formula_for(
     requires visible { length one.now.scope.items < 1000 }
     requires below { Each (λ x. x < length procedure.now.vars.items) one.now.scope.items }
     requires pre { IsPlainOver (length one.now.scope.items + 1) (form_of other.now.pre) }
-    ensures { IfOk result (λ form. form_of form ≡ formula_of (procedure_of procedure.now) (head_of one.now) (procedure_of other.now)) }
+    ensures { IfOk result (λ form. form_of form
+        ≡ formula_of (procedure_of procedure.now) (head_of one.now) (procedure_of other.now)) }
 {
     let mut places = one.scope.clone()?;
     places.push(procedure.vars.len() as u32)?;
     placed(alloc, &other.pre, &places)
 }
 
-/// Whether the second procedure gives a formula for the loop of the first one.
+/// Returns whether the second procedure gives a formula for the loop of the first one.
 fn is_pair(procedure: &TProc, one: &LoopAct, other: &TProc) -> bool
     requires below { Each (λ x. x < length procedure.now.vars.items) one.now.scope.items }
     requires counted { IsCounted other.now }
-    ensures yes { result ≡ true → IsOmegaPair (procedure_of procedure.now) (head_of one.now) (procedure_of other.now) }
-    ensures no { result ≡ false → IsOmegaPair (procedure_of procedure.now) (head_of one.now) (procedure_of other.now) → ⊥ }
+    ensures yes { result ≡ true
+        → IsOmegaPair (procedure_of procedure.now) (head_of one.now) (procedure_of other.now) }
+    ensures no { result ≡ false
+        → IsOmegaPair (procedure_of procedure.now) (head_of one.now) (procedure_of other.now) → ⊥ }
 {
     if !is_bare(other) {
         return false;
@@ -89,7 +93,7 @@ fn is_pair(procedure: &TProc, one: &LoopAct, other: &TProc) -> bool
     have_types(&procedure.vars, &one.scope, inputs_of(other))
 }
 
-/// Whether the procedure is a proc without body and outputs.
+/// Returns whether the procedure is a proc without body and outputs.
 fn is_bare(other: &TProc) -> bool
     ensures yes { result ≡ true → IsBare other.now }
     ensures no { result ≡ false → IsBare other.now → ⊥ }
@@ -103,7 +107,7 @@ fn is_bare(other: &TProc) -> bool
     }
 }
 
-/// The procedure's inputs.
+/// Returns the inputs of a procedure.
 fn inputs_of(procedure: &TProc) -> &[VarInfo]
     requires { IsCounted procedure.now }
     ensures { result.now ≡ take procedure.now.inputs procedure.now.vars.items }
@@ -111,7 +115,8 @@ fn inputs_of(procedure: &TProc) -> &[VarInfo]
     &procedure.vars[..procedure.inputs as usize]
 }
 
-/// Whether the inputs have the types of the variables in the scope, in order, and then UInt.
+/// Returns whether the inputs have the types of the variables in the scope, in order, and then
+/// UInt.
 fn have_types(own: &[VarInfo], scope: &[u32], inputs: &[VarInfo]) -> bool
     requires below { Each (λ x. x < length own.now) scope.now }
     ensures yes { result ≡ true → types_of_variables inputs.now ≡ wanted own.now scope.now }
@@ -130,7 +135,7 @@ fn have_types(own: &[VarInfo], scope: &[u32], inputs: &[VarInfo]) -> bool
     is_one_number(rest)
 }
 
-/// Whether this is one variable, which is a UInt.
+/// Returns whether there is exactly one variable, and it is a UInt.
 fn is_one_number(rest: &[VarInfo]) -> bool
     ensures yes { result ≡ true → types_of_variables rest.now ≡ wanted rest.now [] }
     ensures no { result ≡ false → types_of_variables rest.now ≡ wanted rest.now [] → ⊥ }

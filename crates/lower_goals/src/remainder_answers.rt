@@ -1,23 +1,25 @@
-//! What is answered of lower bounds with a remainder.
+//! Answers on remainder pairs.
 
 use goal_answers::Cause;
 use heylo_formula::Val;
 use heyvl_num::Frac;
 
-/// What is found of a remainder pair.
+/// An answer on two procedures as a remainder pair.
 #[derive(Drop)]
 pub enum Remainder {
-    /// Ended runs of at most m turns collect the pre, but for one part in this step times m of the bound on the inputs.
+    /// The runs that terminate within m iterations have an expected post of at least the pre, less
+    /// the bound on the inputs over this step times m.
     Holds(Frac),
-    /// The first procedure isn't verified.
+    /// The first procedure is not verified.
     NotVerified,
-    /// The ranking of its loop isn't proved.
+    /// The ranking of its loop is not proved.
     NotRanked,
-    /// The bound on the inputs is less, in this state, than what the acts before the loop make of the ranking: a value for each of the
-    /// procedure's variables, and then for each binder.
+    /// The bound on the inputs is less, in this state, than the pre-expectation of the ranking over
+    /// the acts before the loop. The state has a value for each of the procedure's variables, and
+    /// then for each binder.
     Fails(Vec<Val>),
-    /// Nothing is known of that, for this cause.
+    /// The goal is not decided, for this cause.
     Unknown(Cause),
-    /// The two procedures are no remainder pair.
+    /// The procedures are no remainder pair.
     Shape,
 }

@@ -1,4 +1,4 @@
-//! The goal of a remainder pair, for whoever decides it or names its variables.
+//! The goal of a remainder pair.
 
 ghost use Rattle.heylo_formula.specs.PlainTrees.{form_of};
 ghost use Rattle.heyvl_acts.specs.Acts.{procedure_at};
@@ -18,14 +18,21 @@ use heyvl_acts::Typed;
 use std::alloc::{AllocError, Global};
 use vp_generator::generated_form_means_acts;
 
-/// The goal of the remainder pair of the procedures p and q: that q's pre, over p's inputs, is at least what the acts before the loop,
-/// taken upward, make of the ranking; or the limit that the form passes that is generated of it. Want of memory is the one error.
+/// Returns the goal of the remainder pair of the procedures `p` and `q`: the pre of `q`, over the
+/// inputs of `p`, is at least the pre-expectation of the ranking over the acts before the loop,
+/// taken upward. Returns `Depth` or `Nodes` if this pre-expectation exceeds the limit.
 pub fn remainder_goal(alloc: Global, typed: &Typed, p: u32, q: u32) -> Result<Made, AllocError>
     requires first { p < length typed.now.procs.items }
     requires second { q < length typed.now.procs.items }
     requires rules { MeetsAllRules typed.now }
-    requires pair { RemainderPair (procedure_at (procedures_of typed.now) p) (procedure_at (procedures_of typed.now) q) }
-    ensures { (l : RemainderPair (procedure_at (procedures_of typed.now) p) (procedure_at (procedures_of typed.now) q)) → IfOk result (λ made. IsMadeWithin (generated l.loop.front l.rank) (start_goal (procedure_at (procedures_of typed.now) p) l.loop.front l.rank (procedure_at (procedures_of typed.now) q).pre) made) }
+    requires pair { RemainderPair (procedure_at (procedures_of typed.now) p)
+        (procedure_at (procedures_of typed.now) q) }
+    ensures { (l : RemainderPair (procedure_at (procedures_of typed.now) p)
+        (procedure_at (procedures_of typed.now) q))
+        → IfOk result
+        (λ made. IsMadeWithin (generated l.loop.front l.rank)
+        (start_goal (procedure_at (procedures_of typed.now) p) l.loop.front l.rank
+        (procedure_at (procedures_of typed.now) q).pre) made) }
 {
     match pair_of(typed, p, q) {
         Some(parts) => made_of(alloc, typed, p, q, &parts),
@@ -33,7 +40,7 @@ pub fn remainder_goal(alloc: Global, typed: &Typed, p: u32, q: u32) -> Result<Ma
     }
 }
 
-/// The goal of a remainder pair with these parts, or the limit that its form passes. Want of memory is the one error.
+/// Returns the goal of a remainder pair with these parts, or the limit that its form exceeds.
 pub fn made_of<'a>(
     alloc: Global,
     typed: &Typed,
@@ -44,8 +51,14 @@ pub fn made_of<'a>(
     requires first { p < length typed.now.procs.items }
     requires second { q < length typed.now.procs.items }
     requires rules { MeetsAllRules typed.now }
-    requires pair { IsPairAs (procedure_at (procedures_of typed.now) p) (procedure_at (procedures_of typed.now) q) parts.now }
-    ensures { IfOk result (λ made. IsMadeWithin (generated (acts_of parts.now.front.now) (parts.now.step, form_of parts.now.ranking.now)) (start_goal (procedure_at (procedures_of typed.now) p) (acts_of parts.now.front.now) (parts.now.step, form_of parts.now.ranking.now) (procedure_at (procedures_of typed.now) q).pre) made) }
+    requires pair { IsPairAs (procedure_at (procedures_of typed.now) p)
+        (procedure_at (procedures_of typed.now) q) parts.now }
+    ensures { IfOk result (λ made.
+        IsMadeWithin
+        (generated (acts_of parts.now.front.now) (parts.now.step, form_of parts.now.ranking.now))
+        (start_goal (procedure_at (procedures_of typed.now) p) (acts_of parts.now.front.now)
+        (parts.now.step, form_of parts.now.ranking.now)
+        (procedure_at (procedures_of typed.now) q).pre) made) }
 {
     generated_form_means_acts();
     let procedure = &typed.procs[p as usize];

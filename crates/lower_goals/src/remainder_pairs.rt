@@ -13,7 +13,8 @@ use heylo_formula::Form;
 use heyvl_acts::{Act, Typed};
 use heyvl_num::Frac;
 
-/// What a remainder is made of: the acts before the one loop, the loop's number, and its ranking with the step.
+/// The parts of a remainder pair: the acts before the one loop, the loop's number, and its ranking
+/// with the step.
 #[derive(Drop)]
 pub struct RankedParts<'a> {
     pub front: &'a [Act],
@@ -22,12 +23,14 @@ pub struct RankedParts<'a> {
     pub ranking: &'a Form,
 }
 
-/// The parts of the procedure p, where p and q are a remainder pair; none exactly where they are none. It takes no memory.
+/// Returns the parts of the remainder pair of the procedures `p` and `q`, or `None` exactly if they
+/// are none.
 pub fn pair_of<'a>(typed: &'a Typed, p: u32, q: u32) -> Option<RankedParts<'a>>
     requires first { p < length typed.now.procs.items }
     requires second { q < length typed.now.procs.items }
     requires rules { MeetsAllRules typed.now }
-    ensures { ArePair (procedure_at (procedures_of typed.now) p) (procedure_at (procedures_of typed.now) q) result }
+    ensures { ArePair (procedure_at (procedures_of typed.now) p)
+        (procedure_at (procedures_of typed.now) q) result }
 {
     if !is_input_bound(&typed.procs[p as usize], &typed.procs[q as usize]) {
         return None;
@@ -38,7 +41,7 @@ pub fn pair_of<'a>(typed: &'a Typed, p: u32, q: u32) -> Option<RankedParts<'a>>
     }
 }
 
-/// The same of a procedure with one loop.
+/// Returns the parts of a procedure with one loop, or `None` if the loop has no ranking.
 fn ranked<'a>(parts: LoopParts<'a>) -> Option<RankedParts<'a>>
     ensures { IsRankedAs parts.entry result }
 {

@@ -1,7 +1,8 @@
-//! The one loop of a weak proc.
+//! The one loop of a proc with `@wlp`.
 
 ghost use Rattle.heyvl_acts.proofs.exported.PlainActsAre.{head_of};
-ghost use Rattle.heyvl_acts.specs.Acts.{Act as plain_act, Acts as plain_acts, TypedProcedure, acts_in, join, procedure_at};
+ghost use Rattle.heyvl_acts.specs.Acts.{Act as plain_act, Acts as plain_acts, TypedProcedure};
+ghost use Rattle.heyvl_acts.specs.Acts.{acts_in, join, procedure_at};
 ghost use Rattle.heyvl_acts.specs.Places.{in_order, inside};
 ghost use Rattle.heyvl_acts.specs.PlainActs.{act_of, acts_of, procedure_of, procedures_of};
 ghost use Rattle.heyvl_acts.specs.Program.{IsProgram};
@@ -11,7 +12,7 @@ ghost use Rattle.std.specs.Prelude.{length, true, ◌&&◌, ◌<◌, ◌≡◌, 
 use heyvl_acts::{Act, LoopAct, TProc, Typed};
 use proc_contracts::not_program;
 
-/// A body with one loop: the acts before it, the loop, and the acts behind it.
+/// A body with one loop: the acts before it, the loop, and the acts after it.
 #[derive(Drop)]
 pub(crate) struct LoopParts<'a> {
     pub(crate) front: &'a [Act],
@@ -19,8 +20,9 @@ pub(crate) struct LoopParts<'a> {
     pub(crate) behind: &'a [Act],
 }
 
-/// The parts of the procedure's body, where it is a weak proc that is a program, with one loop among its own acts and with
-/// neither loop nor call elsewhere; none exactly where it is no such procedure. It takes no memory.
+/// Returns the parts of the body of the procedure `p`, if it has `@wlp`, is a program, and has one
+/// loop among the acts of its body, and no loop or call elsewhere. Returns `None` exactly if it is
+/// no such procedure.
 pub(crate) fn one_loop<'a>(typed: &'a Typed, p: u32) -> Option<LoopParts<'a>>
     requires there { p < length typed.now.procs.items }
     ensures { IsLoopOf (procedure_at (procedures_of typed.now) p) result }
@@ -31,9 +33,10 @@ pub(crate) fn one_loop<'a>(typed: &'a Typed, p: u32) -> Option<LoopParts<'a>>
     }
 }
 
-/// The same for a procedure that is a program.
+/// Returns the parts of the body of a program, if it has `@wlp` and one loop.
 fn weak_loop<'a>(procedure: &'a TProc) -> Option<LoopParts<'a>>
-    ensures { IsProgram (procedure_of procedure.now) → IsLoopOf (procedure_of procedure.now) result }
+    ensures { IsProgram (procedure_of procedure.now)
+        → IsLoopOf (procedure_of procedure.now) result }
 {
     if !procedure.weak {
         return None;
@@ -44,9 +47,11 @@ fn weak_loop<'a>(procedure: &'a TProc) -> Option<LoopParts<'a>>
     }
 }
 
-/// The same for the acts of a weak proc's body: its first loop counts.
+/// Returns the parts of the acts of a body at its first loop, if there is one and no other loop or
+/// call.
 fn loop_among<'a>(acts: &'a [Act]) -> Option<LoopParts<'a>>
-    ensures { (p : TypedProcedure) → acts_in p.body ≡ acts_of acts.now → p.weak ≡ true → IsProgram p → IsLoopOf p result }
+    ensures { (p : TypedProcedure) → acts_in p.body ≡ acts_of acts.now → p.weak ≡ true → IsProgram p
+        → IsLoopOf p result }
 {
     for place in 0..acts.len() {
         if let Some(one) = loop_in(&acts[place]) {
@@ -56,7 +61,7 @@ fn loop_among<'a>(acts: &'a [Act]) -> Option<LoopParts<'a>>
     None
 }
 
-/// The loop that the act is, if it is one.
+/// Returns the loop that the act is, if it is one.
 fn loop_in(act: &Act) -> Option<&LoopAct>
     ensures { IsLoopIn (act_of act.now) result }
 {
@@ -75,13 +80,18 @@ fn loop_in(act: &Act) -> Option<&LoopAct>
     }
 }
 
-/// These parts, where none of them holds a loop or a call.
+/// Returns the parts, if none of them contains a loop or a call.
 fn straight_parts<'a>(
     front: &'a [Act],
     one: &'a LoopAct,
     behind: &'a [Act],
 ) -> Option<LoopParts<'a>>
-    ensures { (p : TypedProcedure) → acts_in p.body ≡ join (acts_of front.now) (plain_acts.next (plain_act.loop (head_of one.now) (acts_of one.now.body.items)) (acts_of behind.now)) → HasNoLoop (acts_of front.now) → p.weak ≡ true → IsProgram p → IsLoopOf p result }
+    ensures { (p : TypedProcedure)
+        → acts_in p.body
+        ≡ join (acts_of front.now)
+        (plain_acts.next (plain_act.loop (head_of one.now) (acts_of one.now.body.items))
+        (acts_of behind.now)) → HasNoLoop (acts_of front.now) → p.weak ≡ true → IsProgram p
+        → IsLoopOf p result }
 {
     if three_straight(front, &one.body, behind) {
         Some(LoopParts { front, one, behind })
@@ -90,14 +100,16 @@ fn straight_parts<'a>(
     }
 }
 
-/// Whether no act of three lists, those inside others among them, is a loop or a call.
+/// Returns whether none of three lists contains a loop or a call, also inside other acts.
 fn three_straight(front: &[Act], body: &[Act], behind: &[Act]) -> bool
-    ensures { result ≡ (all_straight (in_order (acts_of front.now)) && (all_straight (in_order (acts_of body.now)) && all_straight (in_order (acts_of behind.now)))) }
+    ensures { result ≡ (all_straight (in_order (acts_of front.now))
+        && (all_straight (in_order (acts_of body.now))
+        && all_straight (in_order (acts_of behind.now)))) }
 {
     are_straight(front) && are_straight(body) && are_straight(behind)
 }
 
-/// Whether none of the acts and of those inside them is a loop or a call.
+/// Returns whether none of the acts, or of the acts in them, is a loop or a call.
 #[cycle(bending)]
 fn are_straight(acts: &[Act]) -> bool
     ensures { result ≡ all_straight (in_order (acts_of acts.now)) }
@@ -110,7 +122,7 @@ fn are_straight(acts: &[Act]) -> bool
     true
 }
 
-/// The same for one act and those inside it.
+/// Returns whether neither the act nor an act in it is a loop or a call.
 #[cycle(bending)]
 fn is_straight(act: &Act) -> bool
     ensures { result ≡ all_straight (act_of act.now ∷ inside (act_of act.now)) }

@@ -17,8 +17,9 @@ use made_goals::generated_goal;
 use ranking_rule::upward;
 use std::alloc::{AllocError, Global};
 
-/// The goal that states a bound over these variables and finds what acts, taken upward, make of a ranking; or the limit that the
-/// form with its binders passes.
+/// Returns the goal with `bound` as the stated bound, over these variables. Its computed form is
+/// the pre-expectation of the ranking over the acts, taken upward. Returns the limit that this
+/// form, with its binders, exceeds.
 pub(crate) fn start_goal(
     alloc: Global,
     vars: &[VarInfo],
@@ -28,8 +29,12 @@ pub(crate) fn start_goal(
 ) -> Result<Made, AllocError>
     requires few { length vars.now < 2 ^ 30 }
     requires fit { AreFit (upward (acts_of front.now)) (form_of ranking.now) }
-    requires named { AreNamed (length vars.now) (binders (vp (upward (acts_of front.now)) (form_of ranking.now))) }
-    ensures { let found = vp (upward (acts_of front.now)) (form_of ranking.now) in IfOk result (λ made. IsMadeWithin found (goal_over true (map variable_of vars.now) (form_of bound.now) found) made) }
+    requires named { AreNamed (length vars.now)
+        (binders (vp (upward (acts_of front.now)) (form_of ranking.now))) }
+    ensures { let found = vp (upward (acts_of front.now)) (form_of ranking.now) in
+        IfOk result (λ made.
+        IsMadeWithin found (goal_over true (map variable_of vars.now) (form_of bound.now) found)
+        made) }
 {
     let acts = upward(alloc, front)?;
     generated_goal(alloc, true, vars, bound, &acts, ranking)

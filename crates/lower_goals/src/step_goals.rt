@@ -15,7 +15,7 @@ use heyvl_num::Ext;
 use std::alloc::{AllocError, Global};
 use vp_generator::{VpStop, prenexed_form_means_choices, vp};
 
-/// The goal of a step, or a limit that one of its forms passes. Want of memory is the one error.
+/// Returns the goal of a step, or a limit that one of its forms exceeds.
 pub fn step_goal<'a>(alloc: Global, pair: &Pair<'a>, step: Step) -> Result<Made, AllocError>
     requires { IsReady pair.now }
     ensures { IfOk result (λ made. IsMadeStep pair.now step made) }
@@ -27,7 +27,7 @@ pub fn step_goal<'a>(alloc: Global, pair: &Pair<'a>, step: Step) -> Result<Made,
     }
 }
 
-/// The goal that the formula is at most 1.
+/// Returns the goal that the formula is at most 1.
 fn one_goal<'a>(alloc: Global, pair: &Pair<'a>) -> Result<Made, AllocError>
     requires ready { IsReady pair.now }
     ensures { IfOk result (λ made. IsMadeStep pair.now One made) }
@@ -40,7 +40,7 @@ fn one_goal<'a>(alloc: Global, pair: &Pair<'a>) -> Result<Made, AllocError>
     }
 }
 
-/// The goal with no turn.
+/// Returns the goal with no iteration left.
 fn base_goal<'a>(alloc: Global, pair: &Pair<'a>) -> Result<Made, AllocError>
     requires ready { IsReady pair.now }
     ensures { IfOk result (λ made. IsMadeStep pair.now Base made) }
@@ -55,7 +55,7 @@ fn base_goal<'a>(alloc: Global, pair: &Pair<'a>) -> Result<Made, AllocError>
     }
 }
 
-/// The goal with a turn more.
+/// Returns the goal with one more iteration.
 fn turn_goal<'a>(alloc: Global, pair: &Pair<'a>) -> Result<Made, AllocError>
     requires ready { IsReady pair.now }
     ensures { IfOk result (λ made. IsMadeStep pair.now Turn made) }
@@ -67,7 +67,8 @@ fn turn_goal<'a>(alloc: Global, pair: &Pair<'a>) -> Result<Made, AllocError>
     }
 }
 
-/// The same where a turn makes this of the formula.
+/// Returns the goal with one more iteration, where `turn` is the pre-expectation of the formula
+/// over the body.
 fn with_turn<'a>(alloc: Global, pair: &Pair<'a>, turn: Form) -> Result<Made, AllocError>
     requires ready { IsReady pair.now }
     requires turn { IsTurnOf pair.now (form_of turn) }
@@ -82,7 +83,7 @@ fn with_turn<'a>(alloc: Global, pair: &Pair<'a>, turn: Form) -> Result<Made, All
     }
 }
 
-/// The limit that a form passes.
+/// Returns the limit that a form exceeds.
 fn limit(stop: VpStop) -> Result<Made, AllocError>
     ensures { IfOk result (λ made. IsLimitBy stop made) }
 {

@@ -6,7 +6,8 @@ ghost use Rattle.heyvl_acts.specs.Acts.{variables};
 ghost use Rattle.heyvl_acts.specs.Rules.{Each};
 ghost use Rattle.lower_goals.specs.OmegaGoals.{greater, limited, smaller};
 ghost use Rattle.lower_goals.specs.OmegaPairs.{formula_of};
-ghost use Rattle.lower_goals.specs.LentOmegaPairs.{IsMadeStep, IsReady, behind, body, first, head, second};
+ghost use Rattle.lower_goals.specs.LentOmegaPairs.{IsMadeStep, IsReady, behind, body, first, head};
+ghost use Rattle.lower_goals.specs.LentOmegaPairs.{second};
 ghost use Rattle.std.specs.Prelude.{IfOk, length, ◌≡◌};
 ghost use Rattle.vp_generator.specs.Limits.{IsSmall};
 
@@ -19,24 +20,27 @@ use made_goals::upper_goal;
 use std::alloc::{AllocError, Global};
 use vp_generator::{generated_form_means_acts, prenexed_form_means_choices};
 
-/// The first form while the guard holds, else the second.
+/// Returns the form that is `taken` if the guard holds, otherwise `other`.
 pub(crate) fn guarded(
     alloc: Global,
     guard: &Cond,
     taken: Form,
     other: Form,
 ) -> Result<Form, AllocError>
-    ensures { IfOk result (λ form. form_of form ≡ plain.select (cond_of guard.now) (form_of taken) (form_of other)) }
+    ensures { IfOk result (λ form. form_of form
+        ≡ plain.select (cond_of guard.now) (form_of taken) (form_of other)) }
 {
     let guard = Box::new(alloc, guard.copy(alloc)?)?;
     let taken = Box::new(alloc, taken)?;
     Ok(Form::Select(guard, taken, Box::new(alloc, other)?))
 }
 
-/// The smaller side of a step's goal.
+/// Returns the smaller side of a step's goal.
 fn smaller<'a>(alloc: Global, pair: &Pair<'a>, step: Step) -> Result<Form, AllocError>
     requires ready { IsReady pair.now }
-    ensures { IfOk result (λ form. form_of form ≡ smaller (length (variables (first pair.now))) (formula_of (first pair.now) (head pair.now) (second pair.now)) step) }
+    ensures { IfOk result (λ form. form_of form
+        ≡ smaller (length (variables (first pair.now)))
+        (formula_of (first pair.now) (head pair.now) (second pair.now)) step) }
 {
     let turns = pair.procedure.vars.len() as u32;
     match step {
@@ -54,7 +58,7 @@ fn smaller<'a>(alloc: Global, pair: &Pair<'a>, step: Step) -> Result<Form, Alloc
     }
 }
 
-/// The goal of a step, whose greater side this is.
+/// Returns the goal of a step with this larger side.
 pub(crate) fn goal_with<'a>(
     alloc: Global,
     pair: &Pair<'a>,
@@ -62,8 +66,12 @@ pub(crate) fn goal_with<'a>(
     stated: Form,
 ) -> Result<Made, AllocError>
     requires ready { IsReady pair.now }
-    requires stated { form_of stated ≡ greater (first pair.now) (head pair.now) (body pair.now) (behind pair.now) (formula_of (first pair.now) (head pair.now) (second pair.now)) step }
-    requires small { Each IsSmall (limited (first pair.now) (body pair.now) (behind pair.now) (formula_of (first pair.now) (head pair.now) (second pair.now)) step) }
+    requires stated { form_of stated
+        ≡ greater (first pair.now) (head pair.now) (body pair.now) (behind pair.now)
+        (formula_of (first pair.now) (head pair.now) (second pair.now)) step }
+    requires small { Each IsSmall
+        (limited (first pair.now) (body pair.now) (behind pair.now)
+        (formula_of (first pair.now) (head pair.now) (second pair.now)) step) }
     ensures { IfOk result (λ made. IsMadeStep pair.now step made) }
 {
     generated_form_means_acts();

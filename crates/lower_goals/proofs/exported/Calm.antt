@@ -1,2 +1,3 @@
--- Meant for the proofs of other crates. What the rules say of the acts of a weak proc that is a program and has one loop.
+-- For other crates: the static rules on the acts of a proc with `@wlp` that is a program and has
+-- one loop.
 pub use Rattle.lower_goals.proofs.Calm.{AreCalm, CalmParts, IsCalm, calm_parts}

@@ -1,2 +1,2 @@
--- Meant for the proofs of other crates. The one loop of the first procedure of a pair.
+-- For other crates: the one loop of the first procedure of a pair.
 pub use Rattle.lower_goals.proofs.ReadyPairs.{the_loop}

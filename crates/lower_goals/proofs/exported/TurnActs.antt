@@ -1,2 +1,3 @@
--- Meant for the proofs of other crates. What the rules say of each act of a weak proc with one loop, and that free variables occur.
+-- For other crates: the static rules on each act of a proc with `@wlp` and one loop, and that free
+-- variables occur.
 pub use Rattle.lower_goals.proofs.TurnActs.{IsTurnAct, free_occurs, free_occurs_in}

@@ -1,4 +1,4 @@
--- Shapes of the procedures of an omega pair, and what is made on the way to its goals.
+-- Shapes of the procedures of an omega pair, and intermediate results for its goals.
 use Rattle.std.specs.Prelude.{◌≡◌, ℕ, false, List, ◌∷◌, [], ◌++◌, None, map}
 use Rattle.heylo_formula.specs.Binders.{has_binder}
 use Rattle.heylo_formula.specs.Formula.{Form}
@@ -24,22 +24,23 @@ pub record IsBare (x : TProc) : Type 0 where
   pub bodiless : x.body ≡ None
   pub no_outputs : x.outputs ≡ 0
 
--- The types of these variables, and then UInt.
+-- The types of the variables of the scope, then UInt.
 abbrev pub wanted : List VarInfo → List ℕ → List Ty
 wanted own scope = map (types_in (types_of_variables own)) scope ++ Ty.UInt ∷ []
 
--- A formula without binders over so many variables.
+-- A formula without binders over `n` variables.
 pub record IsPlainOver (n : ℕ) (f : Form) : Type 0 where
   pub plain : has_binder f ≡ false
   pub over : IsOver n f
 
--- The limit that a form passes; want of memory is none.
+-- The result for the limit that a form exceeds. Out of memory is no limit.
 abbrev pub IsLimitBy : VpStop → Made → Type 0
 IsLimitBy stop.Depth m = m ≡ made.Depth
 IsLimitBy stop.Nodes m = m ≡ made.Nodes
 IsLimitBy (stop.Memory e) m = ⊥
 
--- This is what a turn makes of the formula, and it is small.
+-- The form is the pre-expectation of the pair's formula over the loop's body, and it is within the
+-- limits.
 pub record IsTurnOf (x : Pair) (f : Form) : Type 0 where
   pub form : f ≡ after_body (body x) (formula_of (first x) (head x) (second x))
   pub small : IsSmall f

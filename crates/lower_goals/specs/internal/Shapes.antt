@@ -1,4 +1,4 @@
--- The one loop of a procedure, as the program lends it.
+-- The one loop of a procedure as the program borrows it.
 use Rattle.std.specs.Prelude.{◌≡◌, Bool, true, false, ◌&&◌, List, [], ◌∷◌, Option, Some, None}
 use Rattle.std.specs.Borrow.{Bor}
 use Rattle.heyvl_acts.proofs.exported.PlainActsAre.{head_of}
@@ -8,9 +8,10 @@ use Rattle.heyvl_acts.specs.declared.acts.LoopAct.{LoopAct}
 use Rattle.lower_goals.specs.OneLoop.{IsOneLoop, OneLoop}
 use Rattle.lower_goals.specs.declared.shapes.LoopParts.{LoopParts}
 
--- These are the parts of a procedure with one loop; or it is no such procedure.
+-- The result is the parts of a procedure with one loop; it is nothing if the procedure is none.
 abbrev pub IsLoopOf : TypedProcedure → Option LoopParts → Type 0
-IsLoopOf p (Some l) = IsOneLoop p (acts_of l.front.now) (head_of l.one.now) (acts_of l.one.now.body.items) (acts_of l.behind.now)
+IsLoopOf p (Some l) = IsOneLoop p (acts_of l.front.now) (head_of l.one.now)
+    (acts_of l.one.now.body.items) (acts_of l.behind.now)
 IsLoopOf p None = OneLoop p → ⊥
 
 -- Whether the act is neither loop nor call.
@@ -31,7 +32,7 @@ abbrev pub all_straight : List Act → Bool
 all_straight [] = true
 all_straight (a ∷ rest) = is_straight a && all_straight rest
 
--- None of the acts is a loop; those inside them aside.
+-- The act is no loop, and none of the acts of a sequence is one. The acts in them do not count.
 abbrev pub IsNoLoop : Act → Type 0
 IsNoLoop (Act.loop h b) = ⊥
 IsNoLoop (Act.call xs q es span) = Unit {0}
@@ -49,7 +50,7 @@ abbrev pub HasNoLoop : Acts → Type 0
 HasNoLoop Acts.done = Unit {0}
 HasNoLoop (Acts.next a rest) = IsNoLoop a × HasNoLoop rest
 
--- The loop that the act is; or it is none.
+-- The result is the loop that the act is; it is nothing if the act is no loop.
 abbrev pub IsLoopIn : Act → Option (Bor LoopAct) → Type 0
 IsLoopIn a (Some l) = a ≡ Act.loop (head_of l.now) (acts_of l.now.body.items)
 IsLoopIn a None = IsNoLoop a

@@ -5,7 +5,7 @@ use Rattle.lower_goals.specs.internal.Shapes.{all_straight}
 use Rattle.heyvl_acts.proofs.exported.ActsInOrder.{acts_from, arms_from}
 use Rattle.lower_goals.proofs.shapes.+bending.Given as goal
 
--- The rest is straight exactly where all are.
+-- The acts that are left are neither loops nor calls exactly if all acts are neither.
 abbrev pub invariant-are_straight-loop-act : goal.invariant-are_straight-loop-act
 invariant-are_straight-loop-act l = all_straight (acts_from l.acts l.act-index) ≡ all_straight (in_order (acts_of l.acts))
 
