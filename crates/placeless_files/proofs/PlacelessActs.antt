@@ -1,4 +1,5 @@
--- A statement without places becomes the acts of the statement, without places and without the rules of loops.
+-- A statement without places has the acts of the statement, without places and without the rules of
+-- loops.
 use Prim.Native.Nat.{suc}
 use Rattle.heylo_formula.specs.Formula.{Form, Term}
 use Rattle.heyvl_acts.specs.Acts.{Act, Acts, Arms, Variable, join}
@@ -43,7 +44,6 @@ flip_bare n sc x p s =
     ap (λ w. bare_act (draw_or_toss (is_weight_literal w) x (weight_value w) (form (elaborate n sc (bare_expression p))) nowhere)) (weight_bare p)
     ∙ toss_bare (is_weight_literal (weight p)) x (weight_value (weight p)) (form (elaborate n sc (bare_expression p))) (form (elaborate n sc p)) nowhere s (bare_formula p n sc)
 
--- Any value for each of some variables.
 havocs_bare : (sc : Scope) (co : Bool) (xs : List (List ℕ)) (s : Span) → bare (havocs sc co xs no_place) ≡ bare (havocs sc co xs s)
 havocs_bare sc co [] s = refl
 havocs_bare sc co (x ∷ xs) s = ap (λ rest. Acts.next (Act.any (number_or_zero (find sc x)) co (type_of_local (find sc x)) nowhere) rest) (havocs_bare sc co xs s)
@@ -115,12 +115,11 @@ behind_bare n sc (Statement.loop rules g b s) = refl
 
 -- ---- Statements
 
--- One list of acts and then another, without places.
 join_bare : (a b : Acts) → bare (join a b) ≡ join (bare a) (bare b)
 join_bare Acts.done b = refl
 join_bare (Acts.next x a) b = ap (λ rest. Acts.next (bare_act x) rest) (join_bare a b)
 
--- A block's acts from the numbers that what stands before it without places leaves.
+-- The acts of a block, from the numbers that are left before it.
 on_block : (q : Procedure) (called : Called) (sc : Scope) (b : Block) (n m k j : ℕ) → k ≡ n → j ≡ m → bare (block_acts (setting q) called k j sc (bare_block b)) ≡ bare (block_acts (setting q) called n m sc (bare_block b))
 on_block q called sc b n m k j e f = ap₂ (λ x y. bare (block_acts (setting q) called x y sc (bare_block b))) e f
 

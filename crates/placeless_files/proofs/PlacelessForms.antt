@@ -1,4 +1,4 @@
--- An expression without places becomes the form of the expression, without places.
+-- An expression without places has the form of the expression, without places.
 use Rattle.heylo_formula.specs.Formula.{Cond, Form, Term}
 use Rattle.heylo_formula.specs.Typing.NumberType.{eureal, int, uint, ureal}
 use Rattle.heylo_formula.specs.Typing.{NumberType, is_unsigned, join}
@@ -26,7 +26,7 @@ use Rattle.typed_expressions.specs.Table.{Meaning, binary, bound, bracket, choic
 use Rattle.typed_expressions.specs.TypedExpressions.{elaborate, operated}
 use Rattle.typed_expressions.specs.Values.{condition, form, term}
 
--- ---- What has no places stays
+-- ---- Parts without places
 
 pub three_same : {A B C D : Type 0} (f : A → B → C → D) (a x : A) (b y : B) (c z : C) → a ≡ x → b ≡ y → c ≡ z → f a b c ≡ f x y z
 three_same f a x b y c z e g h = ap (λ u. f u b c) e ∙ ap₂ (λ u w. f x u w) g h

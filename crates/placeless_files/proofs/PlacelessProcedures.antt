@@ -1,4 +1,5 @@
--- A file without places becomes the typed procedures of the file, without places and without the rules of loops.
+-- A file without places has the typed procedures of the file, without places and without the rules
+-- of loops.
 use Prim.Native.Nat.{suc}
 use Rattle.heylo_formula.specs.Formula.{Form}
 use Rattle.heyvl_acts.specs.Acts.{TypedProcedure, Variable}
@@ -74,7 +75,7 @@ fronts_bare : (es : List Expression) → fronts_variables (bare_expressions es) 
 fronts_bare [] = refl
 fronts_bare (e ∷ es) = ap₂ (λ (xs ys : List Variable). xs ++ ys) (front_bare e) (fronts_bare es)
 
--- ---- What a call sees
+-- ---- The signature of a procedure
 
 signature_bare : (n : ℕ) (p : Procedure) → signature n (bare_procedure p) ≡ signature n p
 signature_bare n p = three_same (λ (xs ys : List TypeName) (q : Bool). record { number = n; co = p.co; inputs = xs; outputs = ys; quantified = q }) _ _ _ _ _ _ (types_bare p.inputs) (types_bare p.outputs) (any_bare p.posts)
@@ -88,7 +89,6 @@ called_bare ps = signatures_bare ps 0 []
 
 -- ---- Clauses
 
--- Clauses without places are joined to the clause without places.
 joined_bare : (co : Bool) (f : Form) (gs : List Form) → bare_form (joined_with co f gs) ≡ joined_with co (bare_form f) (map bare_form gs)
 joined_bare true f [] = refl
 joined_bare false f [] = refl

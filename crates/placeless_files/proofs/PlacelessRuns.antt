@@ -1,4 +1,4 @@
--- Files that differ in places alone have the same states, sums and bounds.
+-- Files that differ only in places have the same states, sums and bounds.
 use Prim.Native.Nat.{suc, zero}
 use Rattle.heylo_formula.specs.declared.types.Ty.{Ty}
 use Rattle.heylo_formula.specs.State.{IsTyped}
@@ -13,7 +13,6 @@ use Rattle.run_machine.specs.Runs.{runs}
 use Rattle.run_machine.specs.Sums.{sum_of}
 use Rattle.std.proofs.Common.{List, [], ap, refl, subst, sym, ◌∙◌, ◌∷◌, ◌≡◌, ℕ}
 
--- The types of a procedure's variables.
 abbrev types_at : List TypedProcedure → ℕ → List Ty
 types_at ps p = type_list (variables (procedure_at ps p))
 

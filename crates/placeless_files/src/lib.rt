@@ -1,4 +1,5 @@
-//! Laws of files that differ in places alone: their procedures have the same states, sums and bounds.
+//! Laws of files that differ only in places: their procedures have the same states, sums and
+//! bounds.
 #![tactic(auto)]
 
 mod laws;
