@@ -1,5 +1,6 @@
--- The first statements of a translated program: each output takes the value of its input. Behind them the outputs have the values of the
--- variables, and the procedure has taken as many steps as there are variables.
+-- The first statements of a translated program: each output is assigned its input. After them, the
+-- outputs have the values of the variables, and the procedure has taken as many steps as there are
+-- variables.
 use Prim.Native.Nat.{suc}
 use Rattle.pgcl_front.proofs.Scopes.{FoundFrom, no_back}
 use Rattle.pgcl_front.specs.EqualSums.{descend}
@@ -39,11 +40,10 @@ use Rattle.std.proofs.lemmas.Grind.{get_or-set_at}
 use Rattle.std.proofs.lemmas.List.{get_or-set_other, length-set}
 use Rattle.std.specs.Prelude.{eqb, leb, option_map, set}
 
--- The value of an input.
 abbrev pub input_term : ℕ → Declaration → Term
 input_term k d = term (Some (variable (record { number = k; ty = type_name d.ty })))
 
--- Each output takes the value of its input, the k-th first, and then come the acts.
+-- Each output is assigned its input, from the `k`-th one on; then the acts follow.
 abbrev pub begins : ℕ → ℕ → List Declaration → Acts → Acts
 begins v k [] acts = acts
 begins v k (d ∷ ds) acts = Acts.next (Act.set (v + k) (input_term k d) d.span) (begins v (suc k) ds acts)
@@ -66,7 +66,7 @@ module _ (q : Procedure) (called : Called) (m : ℕ) (sc : Scope) where
 
 -- ---- Values of inputs
 
--- The k-th value and those behind it are of the types of the variables.
+-- The values of `s` from the `k`-th one on have the types of the variables.
 abbrev pub HasFrom : ℕ → List Declaration → List Val → Type 0
 HasFrom k [] s = Unit {0}
 HasFrom k (d ∷ ds) s = (has (type_of d.ty) (get k s) ≡ true) × HasFrom (suc k) ds s
@@ -75,7 +75,6 @@ has_shifted : (k : ℕ) (ds : List Declaration) (w : Val) (s : List Val) → Has
 has_shifted k [] w s h = tt
 has_shifted k (d ∷ ds) w s h = (h.0, has_shifted (suc k) ds w s h.1)
 
--- The type of a variable is that of its input.
 pub one_type : (ty : VariableType) → type_of ty ≡ type_or_bool (declarable (type_name ty))
 one_type types.Bool = refl
 one_type types.Nat = refl
@@ -86,7 +85,6 @@ inputs_typed [] vs s h = tt
 inputs_typed (d ∷ ds) vs [] h = absurd h
 inputs_typed (d ∷ ds) vs (w ∷ s) h = (subst (λ ty. has ty w ≡ true) (sym (one_type d.ty)) h.0, has_shifted 0 ds w s (inputs_typed ds vs s h.1))
 
--- What is read of an input is its value.
 input_value : (k : ℕ) (ty : VariableType) (t : List Val) (w : Val) → get k t ≡ w → has (type_of ty) w ≡ true → term_value (term (Some (variable (record { number = k; ty = type_name ty })))) (environment t) ≡ w
 input_value k types.Bool t (Truth b) e h = ap (λ w. Truth (truth_of w)) e
 input_value k types.Bool t (Num x) e h = absurd (cc)
@@ -95,7 +93,7 @@ input_value k types.Nat t (Num x) e h = ap (λ w. Num (number_of w)) e
 input_value k types.Real t (Truth b) e h = absurd (cc)
 input_value k types.Real t (Num x) e h = ap (λ w. Num (number_of w)) e
 
--- ---- Their runs
+-- ---- The runs of the first statements
 
 one_later : (n k : ℕ) → n + suc k ≡ suc (n + k)
 one_later n k = omega arith
@@ -111,7 +109,7 @@ module _ (ps : List TypedProcedure) (p v size : ℕ) (wide : v + v ≤ size) (po
   abbrev pub from_acts : Acts → List Val → (ℕ → ℕ) → Config
   from_acts acts t turns = record { procedure = p; items = push acts []; frames = []; state = t; reward = zeroᵛ; turns = turns }
 
-  -- The state behind so many first assignments.
+  -- The state after `m` of the first assignments.
   pub record Begun (m n : ℕ) (acts whole : Acts) (t : List Val) (turns : ℕ → ℕ) (tree : Tree) : Type 0 where
     pub values : List Val
     pub long : length values ≡ size

@@ -1,4 +1,4 @@
--- Runs of guarded commands and their sums, by their equations.
+-- Equations of the runs of guarded commands and of their sums.
 use Prim.Native.Nat.{suc, zero}
 use Rattle.pgcl_front.specs.GuardedRuns.{GuardedRunner, guarded_runs, onward, spread}
 use Rattle.pgcl_front.specs.GuardedSteps.{GuardedConfig, GuardedOutcomes, surely}
@@ -31,7 +31,7 @@ guarded-one f c = weighted_sum-cons f oneʳ c [] ∙ (ap (λ v. (finite oneʳ *�
 guarded-spread : (g : GuardedConfig → Value) (f : GuardedRunner) (x : Rational × GuardedConfig) (xs : GuardedOutcomes) (ts : Forest) → weighted_sum g (spread f (x ∷ xs) ts) ≡ (finite x.0 *ᵛ weighted_sum g (f x.1 (first ts))) +ᵛ weighted_sum g (spread f xs (rest ts))
 guarded-spread g f x xs ts = weighted_sum-append g (scaled x.0 (f x.1 (first ts))) (spread f xs (rest ts)) ∙ ap (λ v. v +ᵛ weighted_sum g (spread f xs (rest ts))) (weighted_sum-scaled g x.0 (f x.1 (first ts)))
 
--- Two lists of outcomes, side by side: with equal weights, and outcomes that are related one by one.
+-- Two lists of outcomes with equal weights, whose outcomes are related by `R` one by one.
 abbrev pub Beside : (GuardedConfig → Config → Type 0) → GuardedOutcomes → Outcomes → Type 0
 Beside R [] [] = Unit {0}
 Beside R [] (y ∷ ys) = ⊥

@@ -1,4 +1,4 @@
--- Worked sums, computed by the definitions, of programs and of the coprocs that they become.
+-- Worked sums of programs and of their coprocs, computed by the definitions.
 use Rattle.pgcl_front.specs.GuardedRuns.{guarded_runs, program_sum}
 use Rattle.heylo_formula.specs.declared.values.Val.TheVariants.{Num, Truth}
 use Rattle.heylo_formula.specs.declared.values.Val.{Val}
@@ -30,7 +30,7 @@ use Rattle.std.specs.Fmt.{digits}
 abbrev nowhere : Span
 nowhere = record { from = 0; to = 0 }
 
--- The numerator and the denominator of a value; 1 and 0 for infinity.
+-- The numerator and the denominator of a value. Infinity is 1 and 0.
 abbrev parts : Value → ℤ × ℕ
 parts (finite x) = (x.num, x.den)
 parts infinite = (pos 1, 0)
@@ -76,8 +76,9 @@ walk = record {
   body = one (CommandTree.repeat (name (codes "go")) walk_bound (one walk_step) nowhere);
 }
 
--- From c = 2 and go the loop's test is the first step, the second chooses a block, the third enters it, the fourth assigns, and behind
--- the fifth, the next test, half of the runs have ended with c = 2.
+-- From c = 2 and go = true, the loop's test is the first step; the second chooses a block, the
+-- third enters it, the fourth assigns, and after the fifth, the next test, half of the runs have
+-- terminated with c = 2.
 abbrev walk_after : ℕ → ℤ × ℕ
 walk_after n = program_after walk n (whole 2 ∷ Truth true ∷ []) Tree.leaf
 
@@ -117,18 +118,18 @@ right_second = Tree.node Decision.none (Forest.trees (Tree.node (Decision.side f
 abbrev bet_after : ℕ → Tree → ℤ × ℕ
 bet_after n t = program_after bet n (whole 0 ∷ []) t
 
--- The tick counts from its own step on. The left block takes a step to choose, one to enter and one to assign, and a third of the runs
--- end with 2, the others with 1.
+-- The tick counts from its own step on. The left block takes a step to choose, one to enter and one
+-- to assign; a third of the runs terminates with 2, the others with 1.
 bet_left : (bet_after 0 Tree.leaf ≡ (pos 0, 1)) × (bet_after 1 Tree.leaf ≡ (pos 1, 1)) × (bet_after 4 Tree.leaf ≡ (pos 1, 1)) × (bet_after 5 Tree.leaf ≡ (pos 7, 3)) × (bet_after 6 Tree.leaf ≡ (pos 7, 3))
 unfolding guarded_runs weighted_sum scaled literal_value inverse_value literal_quotient ratio gcd gcd_steps zeroʳ oneʳ zeroᵛ oneᵛ ◌+ʳ◌ ◌*ʳ◌ ◌-ʳ◌ negʳ ◌+ᵛ◌ ◌*ᵛ◌ infinite_times is_zeroʳ leqʳ leqᵛ minᵛ
 bet_left = (refl, refl, refl, refl, refl)
 
--- The right block ends with 0.
+-- The right block terminates with 0.
 bet_right : (bet_after 1 right_second ≡ (pos 1, 1)) × (bet_after 3 right_second ≡ (pos 1, 1)) × (bet_after 5 right_second ≡ (pos 1, 1))
 unfolding guarded_runs weighted_sum scaled literal_value inverse_value literal_quotient ratio gcd gcd_steps zeroʳ oneʳ zeroᵛ oneᵛ ◌+ʳ◌ ◌*ʳ◌ ◌-ʳ◌ negʳ ◌+ᵛ◌ ◌*ᵛ◌ infinite_times is_zeroʳ leqʳ leqᵛ minᵛ
 bet_right = (refl, refl, refl)
 
--- The coproc's own first step comes before.
+-- The coproc first takes a step for its variable.
 bet_main : (coproc_after (translated nowhere bet) 6 (whole 0 ∷ whole 9 ∷ Truth true ∷ []) Tree.leaf ≡ (pos 7, 3)) × (coproc_after (translated nowhere bet) 4 (whole 0 ∷ whole 9 ∷ Truth true ∷ []) (Tree.node Decision.none (Forest.trees right_second Forest.no_trees)) ≡ (pos 1, 1))
 unfolding runs weighted_sum scaled literal_value inverse_value literal_quotient ratio gcd gcd_steps zeroʳ oneʳ zeroᵛ oneᵛ ◌+ʳ◌ ◌*ʳ◌ ◌-ʳ◌ negʳ ◌+ᵛ◌ ◌*ᵛ◌ infinite_times is_zeroʳ leqʳ leqᵛ minᵛ digits
 bet_main = (refl, refl)

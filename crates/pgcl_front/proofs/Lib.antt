@@ -13,3 +13,4 @@ pub mod MainBounds
 pub mod TranslatedSums
 pub mod exported
 mod Examples
+mod LawExamples

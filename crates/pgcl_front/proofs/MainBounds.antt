@@ -1,4 +1,4 @@
--- Bounds of the coproc that a program becomes are bounds of the program.
+-- Bounds of the coproc of a program are bounds of the program.
 use Prim.Native.Nat.{suc, zero}
 use Rattle.pgcl_front.proofs.Beginnings.{one_type}
 use Rattle.pgcl_front.proofs.MainSums.{clean, main_sums, placed}
@@ -60,7 +60,7 @@ given_same o p f g e h = subst (λ q. given o f ≡ given q g) e (go o)
     go None = refl
     go (Some x) = h x
 
--- An expression over the inputs becomes what it becomes over the variables.
+-- An expression over the inputs is elaborated to the form of the expression over the variables.
 module _ (ins own : Scope) (names : (x : List ℕ) → find ins (input_name x) ≡ find own x) (n m : ℕ) where
   started : (e : Expression) → IsQuiet e → elaborate n ins (at_start e) ≡ elaborate m own e
   started (Expression.number v s) q = refl
@@ -87,9 +87,9 @@ module _ (v : ℕ) (own head : Scope) (p : InScope v own head) (s t : List Val) 
   same_amount : (e : Expression) → IsQuiet e → amount own e s ≡ amount own e t
   same_amount e q = same_form (environment s) (environment t) (elaborate 0 own e) (elaborate 0 own e) (alike (environment s) (environment t) own own own_names 0 0 e q)
 
--- ---- The tree before
+-- ---- The tree above
 
--- A tree from which this one is reached after so many steps.
+-- A tree whose subtree after `k` steps is the given one.
 abbrev above : ℕ → Tree → Tree
 above zero t = t
 above (suc k) t = Tree.node Decision.none (Forest.trees (above k t) Forest.no_trees)
@@ -98,7 +98,7 @@ reached : (k : ℕ) (t : Tree) → descend k (above k t) ≡ t
 reached zero t = refl
 reached (suc k) t = reached k t
 
--- ---- The state before
+-- ---- The state before the first statements
 
 input_types : (ds : List Declaration) → map (λ d. type_of d.ty) ds ≡ type_list (parameters (map input ds))
 input_types [] = refl

@@ -1,4 +1,4 @@
--- The sums of a program are those of the coproc that it becomes.
+-- The sums of a program are those of its coproc.
 use Rattle.pgcl_front.proofs.Beginnings.{begins, begun_sums, from_acts, inputs_typed, starts_are, starts_clean}
 use Rattle.pgcl_front.proofs.Matching.{Matches, SameForm}
 use Rattle.pgcl_front.proofs.QuietPrograms.{IsQuietProgram, quiet_program}
@@ -34,7 +34,6 @@ use Rattle.run_machine.specs.Sums.{sum_of}
 use Rattle.std.proofs.Common.{List, None, [], ap, ap₂, arith, false, length, map, refl, subst, sym, take, true, ◌++◌, ◌+◌, ◌∙◌, ◌∷◌, ◌≡◌, ◌≤◌, ℕ}
 use Rattle.std.proofs.lemmas.List.{get_or-take, length-append, length-map, length-take-le}
 
--- Nothing is found where there is no first fault.
 none_found : (fs : List Finding) → first fs ≡ None → fs ≡ []
 none_found [] e = refl
 none_found (f ∷ fs) e = absurd (cc)
@@ -58,13 +57,13 @@ module _ (place : Span) (program : ProgramTree) where
   outputs_length : length (map output ds) ≡ v
   outputs_length = length-map ds output
 
-  -- What nothing is found against.
+  -- The coproc has no static error in any of its parts.
   pub record Clean : Type 0 where
     pub inputs : parameters_findings 0 [] (map input ds) ≡ []
     pub outputs : parameters_findings (length (map input ds)) (input_scope main) (map output ds) ≡ []
     pub body : block_findings (setting main) names (has_quantified_post main) (arity main) (head_scope main) (heyvl.block_of (map start ds ++ statements 1 program.body)) ≡ []
 
-  -- All that is found against the coproc.
+  -- The static errors of all parts of the coproc.
   abbrev pub all_parts : List Finding
   all_parts =
       parameters_findings 0 [] (map input ds)
@@ -100,7 +99,7 @@ module _ (place : Span) (program : ProgramTree) where
     acts_are : block_acts (setting main) names (arity main) 1 (head_scope main) (heyvl.block_of (map start ds ++ statements 1 program.body)) ≡ begins v 0 ds body_of_commands
     acts_are = starts_are main names 1 (head_scope main) (arity main) v 0 ds (statements 1 program.body) outputs_found inputs_found
 
-    -- ---- How many variables there are
+    -- ---- The number of variables
 
     starts_declare_none : (xs : List Declaration) → locals_of_block (heyvl.block_of (map start xs ++ statements 1 program.body)) ≡ locals_of_block (heyvl.block_of (statements 1 program.body))
     starts_declare_none [] = refl

@@ -1,5 +1,6 @@
--- Which acts the commands of a program may become: acts that do the same in every state in which the outputs have the values of the
--- variables. The variables of probabilistic choices have the numbers from twice v on, where v is the number of variables.
+-- The acts that match the commands of a program: they do the same in every state in which the
+-- outputs have the values of the variables. With v variables, those of probabilistic choices have
+-- the numbers from 2*v on.
 use Rattle.pgcl_front.proofs.Scopes.{Agrees}
 use Rattle.pgcl_front.specs.Readings.{amount, chance, index_in, is_true, new_value}
 use Rattle.heylo_formula.specs.Choices.{Choices}
@@ -27,11 +28,11 @@ module _ (own : Scope) (v : ℕ) where
   abbrev pub SameTerm : Expression → Term → Type 0
   SameTerm e u = (s t : List Val) → Agrees v s t → new_value own e s ≡ term_value u (environment t)
 
-  -- The act makes the variable true with the probability, then false with the rest.
+  -- The act makes the variable true with the probability `p`, and false otherwise.
   abbrev pub Flips : Expression → ℕ → Act → Type 0
   Flips p x a = (ps : List TypedProcedure) (is : List Item) (c : Config) (d : Decision) (s : List Val) → Agrees v s c.state → step_act ps a is c d ≡ branches c is x (flip_parts (chance own p s))
 
--- The acts of each command, but for those of its blocks.
+-- The acts of each kind of command, apart from those of its blocks.
 pub record SkipActs (acts : Acts) : Type 0 where
   pub span : Span
   pub are : acts ≡ Acts.next (Act.ifs (Arms.arm (Cond.constant true) Acts.done Arms.no_arm) Acts.done span) Acts.done

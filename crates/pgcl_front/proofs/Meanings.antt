@@ -1,4 +1,4 @@
--- An expression means the same in two scopes and states where each name of it does.
+-- An expression means the same in two scopes and states if each of its names does.
 use Rattle.pgcl_front.proofs.QuietTokens.{IsPlain, IsQuiet}
 use Rattle.heylo_formula.specs.Choices.{Choices}
 use Rattle.heylo_formula.specs.Formula.{Cond, Form}
@@ -27,7 +27,7 @@ use Rattle.typed_expressions.specs.TypedExpressions.{elaborate, operated}
 use Rattle.std.proofs.Common.{Bool, List, None, Option, Some, ap, ap₂, false, refl, subst, true, ◌≡◌, ℕ}
 use Rattle.std.specs.Prelude.{if◌then◌else◌, not, option_map, ◌&&◌, ◌==◌, ◌||◌}
 
--- Two meanings of one kind and type, whose values are equal.
+-- Two meanings of the same kind and type, with equal values.
 abbrev pub AlikeMeanings : Env → Env → Meaning → Meaning → Type 0
 AlikeMeanings s t (Meaning.truth g) (Meaning.truth h) = holds g s Choices.stop ≡ holds h t Choices.stop
 AlikeMeanings s t (Meaning.truth g) (Meaning.number b k) = ⊥
@@ -39,7 +39,6 @@ AlikeMeanings s t Meaning.real (Meaning.truth h) = ⊥
 AlikeMeanings s t Meaning.real (Meaning.number b k) = ⊥
 AlikeMeanings s t Meaning.real Meaning.real = Unit {0}
 
--- Both are none, or both are alike.
 abbrev pub Alike : Env → Env → Option Meaning → Option Meaning → Type 0
 Alike s t None None = Unit {0}
 Alike s t None (Some y) = ⊥
@@ -91,7 +90,7 @@ module _ (s t : Env) where
   same_term (Some Meaning.real) (Some (Meaning.number b k)) h = absurd h
   same_term (Some Meaning.real) (Some Meaning.real) h = refl
 
-  -- ---- Cases
+  -- ---- By kinds of meanings
 
   by_kinds : (P : Meaning → Meaning → Type 0) → ((g h : Cond) → holds g s Choices.stop ≡ holds h t Choices.stop → P (Meaning.truth g) (Meaning.truth h))
       → ((a b : NumberType) → a ≡ b → (f k : Form) → value f s Choices.stop ≡ value k t Choices.stop → P (Meaning.number a f) (Meaning.number b k)) → P Meaning.real Meaning.real
@@ -112,7 +111,7 @@ module _ (s t : Env) where
   given_alike (Some x) None f g h k = absurd h
   given_alike (Some x) (Some y) f g h k = k x y h
 
-  -- ---- Parts of the table
+  -- ---- Parts of the table of expressions
 
   literal_alike : (n : Lit) → Alike s t (literal n) (literal n)
   literal_alike n = go (is_written n)

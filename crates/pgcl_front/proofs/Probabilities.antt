@@ -1,4 +1,4 @@
--- A weight literal against which nothing is found means its own weight.
+-- A weight literal without a static error means its weight.
 use Rattle.heylo_formula.specs.Formula.{Form}
 use Rattle.heylo_formula.specs.Operators.{finite_part}
 use Rattle.heylo_formula.specs.State.{Env}
@@ -25,12 +25,11 @@ use Rattle.typed_expressions.specs.Table.{Meaning, quotient}
 use Rattle.typed_expressions.specs.TypedExpressions.{elaborate}
 use Rattle.typed_expressions.specs.Values.{form}
 
--- What holds of a choice holds of the side that is chosen.
 chosen : {A : Type 0} (P : A → Type 0) (b : Bool) (x y : A) → P (if b then x else y) → ((b ≡ true) × P x) ⊎ ((b ≡ false) × P y)
 chosen P true x y h = inl (refl, h)
 chosen P false x y h = inr (refl, h)
 
--- The value of a number that is at most 1 is the smaller of it and 1.
+-- If a number is at most 1, it is the smaller one of itself and 1.
 smaller : (q : Rational) → leqʳ q oneʳ ≡ true → finite_part (minᵛ (finite q) oneᵛ) ≡ q
 unfolding minᵛ leqᵛ oneᵛ
 smaller q h = rw h refl
@@ -70,7 +69,7 @@ divided : (q w : Rational) (b : Bool) (s : Env) → toss_weight (form (quotient 
 divided q w true s = ap (λ v. finite_part (minᵛ v oneᵛ)) (product_is q w)
 divided q w false s = ap (λ v. finite_part (minᵛ v oneᵛ)) (product_is q w)
 
--- What holds of a weight against which nothing is found.
+-- The conditions that a weight without a static error satisfies.
 abbrev pub Likely : Expression → Type 0
 Likely p = (is_probability (weight p) ≡ true) × (is_over_zero (weight p) ≡ false)
 

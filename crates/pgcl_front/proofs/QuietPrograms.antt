@@ -1,4 +1,4 @@
--- The commands of a program without reserved words and quantifiers.
+-- The commands of a program without reserved names and quantifiers.
 use Rattle.pgcl_front.proofs.QuietTokens.{AreQuiet, IsPlain, IsQuiet, Quiet, back_of, front_of, plain_name, quiet_expression, quiet_from}
 use Rattle.heyvl_syntax.specs.Expressions.{Expression}
 use Rattle.heyvl_syntax.specs.Grammar.{IsBraced, IsFull}
@@ -12,7 +12,7 @@ use Rattle.guarded_commands.specs.ReservedNames.{IsTranslatable}
 use Rattle.guarded_commands.specs.declared.programs.Declaration.{Declaration}
 use Rattle.std.proofs.Common.{List, [], length, refl, ◌∷◌}
 
--- Commands whose names are plain and whose expressions are quiet.
+-- The names of the command are plain, and its expressions are quiet.
 abbrev mutual
   pub IsQuietCommand : CommandTree → Type 0
   IsQuietCommand (CommandTree.skip s) = Unit {0}
@@ -27,7 +27,6 @@ abbrev mutual
   IsQuietBlock BlockTree.done = Unit {0}
   IsQuietBlock (BlockTree.next x xs) = IsQuietCommand x × IsQuietBlock xs
 
--- An expression in parentheses.
 enclosed : (e : Expression) (ts : List Token) → IsEnclosed e ts → AreQuiet ts → IsQuiet e
 enclosed e ts h q =
     let rest = back_of (IsMark marks.ParenLeft) (IsFull e then IsMark marks.ParenRight) ts h q in
@@ -98,7 +97,6 @@ mutual
       let rest = back_of (IsCommand x) (IsCommands xs) ts h q in
       (quiet_command x one.text one.is one.quiet, quiet_commands xs rest.text rest.is rest.quiet)
 
--- Declarations of plain names.
 abbrev pub ArePlain : List Declaration → Type 0
 ArePlain [] = Unit {0}
 ArePlain (d ∷ ds) = IsPlain d.name × ArePlain ds
@@ -112,7 +110,7 @@ plain_declarations (d ∷ ds) ts h q =
     let named = front_of (IsName d.name) (IsMark marks.Semi) behind.text behind.is behind.quiet in
     (plain_name d.name named.text named.is named.quiet, plain_declarations ds rest.text rest.is rest.quiet)
 
--- A program whose names are plain and whose expressions are quiet.
+-- The names of the program are plain, and its expressions are quiet.
 pub record IsQuietProgram (p : ProgramTree) : Type 0 where
   pub declarations : ArePlain p.declarations
   pub pre : IsQuiet p.pre

@@ -1,4 +1,5 @@
--- The tokens of a program without reserved words and quantifiers, and what they say of its expressions.
+-- The tokens of a program without reserved names and quantifiers, and the expressions that they
+-- spell.
 use Rattle.heyvl_syntax.specs.Expressions.{Expression}
 use Rattle.heyvl_syntax.specs.Grammar.{IsExpr, IsType, operator, prefix, quantifier_key, ranks}
 use Rattle.heyvl_syntax.specs.Productions.{IsAt, IsKey, IsMark, IsName, ◌then◌}
@@ -13,11 +14,11 @@ use Rattle.std.proofs.lemmas.List.Sums.{sum_by-cons}
 use Rattle.std.proofs.lemmas.List.{drop-drop}
 use Rattle.std.specs.Prelude.{drop}
 
--- A name that begins as none does that the translation makes.
+-- The name does not begin like the names that the translation makes.
 abbrev pub IsPlain : List ℕ → Type 0
 IsPlain x = is_made (kinds.Word x) ≡ false
 
--- An expression without quantifier, whose names are plain.
+-- The expression has no quantifier, and its names are plain.
 abbrev pub IsQuiet : Expression → Type 0
 IsQuiet (Expression.number n s) = Unit {0}
 IsQuiet (Expression.truth b s) = Unit {0}
@@ -31,7 +32,7 @@ IsQuiet (Expression.binary op a b s) = IsQuiet a × IsQuiet b
 IsQuiet (Expression.choice a b c s) = IsQuiet a × (IsQuiet b × IsQuiet c)
 IsQuiet (Expression.bound up x t a s) = ⊥
 
--- No token is a quantifier, or a word as the translation makes them.
+-- No token is a quantifier or a name like those of the translation.
 abbrev pub AreQuiet : List Token → Type 0
 AreQuiet [] = Unit {0}
 AreQuiet (t ∷ ts) = ((is_made t.kind ≡ false) × (is_quantifier t.kind ≡ false)) × AreQuiet ts
@@ -40,7 +41,6 @@ quiet_parts : (xs ys : List Token) → AreQuiet (xs ++ ys) → AreQuiet xs × Ar
 quiet_parts [] ys q = (tt, q)
 quiet_parts (x ∷ xs) ys q = let more = quiet_parts xs ys q.1 in ((q.0, more.0), more.1)
 
--- Quiet tokens of a production.
 pub record Quiet (P : List Token → Type 0) : Type 0 where
   pub text : List Token
   pub is : P text
@@ -100,7 +100,7 @@ quiet_expression (Expression.bound up x ty a s) k ts h q =
     let key = front_of (IsKey (quantifier_key up)) (IsName x then IsMark marks.Colon then IsType ty then IsMark marks.Dot then IsExpr a 9) ts h.1 q in
     absurd (no_quantifier up key.text key.is key.quiet)
 
--- ---- Tokens that aren't reserved
+-- ---- Tokens that are not reserved
 
 one_more : (n : ℕ) → suc n ≡ n + 1
 one_more n = omega arith

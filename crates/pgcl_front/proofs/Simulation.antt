@@ -1,4 +1,4 @@
--- The runs of a program and those of the acts that it becomes go side by side, step by step.
+-- The runs of a program and those of its acts correspond step by step.
 use Prim.Native.Nat.{suc, zero}
 use Rattle.pgcl_front.proofs.Equations.{Beside, beside_spread, guarded-next, guarded-one, guarded-zero}
 use Rattle.pgcl_front.proofs.Matching.{Matches, MixActs, SameCondition, SameForm, Translates}
@@ -35,7 +35,6 @@ use Rattle.std.specs.Prelude.{None, Option, Some, eqb, if◌then◌else◌, set}
 -- ---- States
 
 module _ (v : ℕ) (s t : List Val) (a : Agrees v s t) where
-  -- a declared variable takes a value
   assigned : (i : ℕ) (w : Val) → i < v → length s ≡ v → v + i < length t → Agrees v (set s i w) (set t (v + i) w)
   assigned i w lt e long j lj = go (eqb_tells i j)
     where
@@ -43,14 +42,13 @@ module _ (v : ℕ) (s t : List Val) (a : Agrees v s t) where
       go (inl k) = get_or-set_at s i j w (Truth false) (sym k.1) (subst (λ m. i < m) (sym e) lt) ∙ sym (get_or-set_at t (v + i) (v + j) w (Truth false) (ap (λ m. v + m) (sym k.1)) long)
       go (inr k) = get_or-set_other s i j w (Truth false) (λ p. k.1 (sym p)) ∙ (a j lj ∙ sym (get_or-set_other t (v + i) (v + j) w (Truth false) (λ p. k.1 (let q = sym p in omega (arith, q)))))
 
-  -- another variable takes a value
   picked : (x : ℕ) (w : Val) → v + v ≤ x → Agrees v s (set t x w)
   picked x w le j lj = a j lj ∙ sym (get_or-set_other t x (v + j) w (Truth false) (λ p. absurd (let q = p in omega (arith, q, le, lj))))
 
--- ---- What is still to be done
+-- ---- What is left to do
 
 module _ (own : Scope) (ps : List TypedProcedure) (p v size : ℕ) (wide : v + v ≤ size) where
-  -- items for a loop, before others: the loop as an act, or its next test
+  -- The items for a loop, before other items: the loop as an act, or its next test.
   pub record LoopItems (g : Expression) (b : BlockTree) (is more : List Item) : Type 0 where
     pub head : Head
     pub same : SameCondition own v g head.guard
@@ -58,7 +56,7 @@ module _ (own : Scope) (ps : List TypedProcedure) (p v size : ℕ) (wide : v + v
     pub matches : Matches own v size b body
     pub items : (is ≡ Item.act (Act.loop head body) ∷ more) ⊎ (is ≡ Item.turn head body ∷ more)
 
-  -- items for a command, before others
+  -- The items for a command, before other items.
   pub record ActItems (c : CommandTree) (is more : List Item) : Type 0 where
     pub acts : Acts
     pub translates : Translates own v size c acts
@@ -77,7 +75,7 @@ module _ (own : Scope) (ps : List TypedProcedure) (p v size : ℕ) (wide : v + v
   Stands [] is = is ≡ []
   Stands (c ∷ cs) is = (more : List Item) × (Stands cs more × OneStands c is more)
 
-  -- a block is entered next: the one that the variable of its choice tells
+  -- The block `b` is entered next: the variable of its choice has the value for it.
   pub record Enters (b : BlockTree) (cs : List CommandTree) (is : List Item) (t : List Val) : Type 0 where
     pub number : ℕ
     pub left : BlockTree
@@ -118,12 +116,11 @@ module _ (own : Scope) (ps : List TypedProcedure) (p v size : ℕ) (wide : v + v
   one_stands (CommandTree.choice a b s) front more h = record { acts = front; translates = h; items = refl }
   one_stands (CommandTree.repeat g i b s) front more h = record { head = h.0.head; same = h.0.same; body = h.0.body; matches = h.1; items = inl (ap (λ f. push f more) h.0.are) }
 
-  -- a block in front of what is still to be done
   pub block_stands : (b : BlockTree) (a : Acts) (cs : List CommandTree) (is : List Item) → Matches own v size b a → Stands cs is → Stands (listed b cs) (push a is)
   block_stands BlockTree.done a cs is m h = subst (λ x. Stands cs (push x is)) (sym m) h
   block_stands (BlockTree.next c b) a cs is m h = (push m.1.0 is, (block_stands b m.1.0 cs is m.1.1.0.1 h, subst (λ x. OneStands c x (push m.1.0 is)) (sym (ap (λ x. push x is) m.1.1.1 ∙ push_join m.0 m.1.0 is)) (one_stands c m.0 (push m.1.0 is) m.1.1.0.0)))
 
-  -- ---- A step on both sides
+  -- ---- One step of both
 
   pub record Goes (f : Decision → GuardedOutcomes) (is : List Item) (t : List Val) (r : Value) (turns : ℕ → ℕ) : Type 0 where
     pub item : Item
@@ -143,7 +140,6 @@ module _ (own : Scope) (ps : List TypedProcedure) (p v size : ℕ) (wide : v + v
     on : (cs : List CommandTree) (is : List Item) (turns' : ℕ → ℕ) → Stands cs is → Same (does cs s r) (config is t r turns')
     on cs is turns' h = record { items = is; values = t; turns = turns'; same = refl; long = long; short = short; agrees = a; stands = h }
 
-    -- one of two blocks
     one_block : (b : Bool) (pa qa : BlockTree) (x y : Acts) (cs : List CommandTree) (more : List Item) → Matches own v size pa x → Matches own v size qa y → Stands cs more → Same (does (listed (cond b pa qa) cs) s r) (config (push (cond b x y) more) t r turns)
     one_block true pa qa x y cs more m k h = on (listed pa cs) (push x more) turns (block_stands pa x cs more m h)
     one_block false pa qa x y cs more m k h = on (listed qa cs) (push y more) turns (block_stands qa y cs more k h)

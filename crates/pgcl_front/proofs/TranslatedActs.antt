@@ -1,4 +1,4 @@
--- The acts of the statements that commands become match the commands, where nothing is found against the statements.
+-- The acts of translated commands match the commands, if the statements have no static error.
 use Rattle.pgcl_front.proofs.Matching.{Flips, Matches, SameCondition, SameForm, SameTerm}
 use Rattle.pgcl_front.proofs.Meanings.{alike, same_condition, same_form, same_term}
 use Rattle.pgcl_front.proofs.Probabilities.{literal_chance}
@@ -43,7 +43,7 @@ use Rattle.std.proofs.lemmas.List.{length-append}
 use Rattle.std.specs.Option.{is_none}
 use Rattle.std.specs.Prelude.{if◌then◌else◌, option_map, ◌||◌}
 
--- ---- How many variables the choices need
+-- ---- The number of variables for probabilistic choices
 
 two_blocks : (xs ys zs : List Variable) (p q n : ℕ) → length xs ≡ p → length ys ≡ q → length zs ≡ n → length (((xs ++ []) ++ ys) ++ zs) ≡ (p + q) + n
 two_blocks xs ys zs p q n e f g = length-append ((xs ++ []) ++ ys) zs ∙ ap₂ (λ x y. x + y) (length-append (xs ++ []) ys ∙ ap₂ (λ x y. x + y) (ap length (append-nil xs) ∙ e) f) g
@@ -80,13 +80,12 @@ arms_count j k a b = length-append (locals_of_block (heyvl.block_of (statements 
 sides_count : (j k : ℕ) (a b : BlockTree) → length (locals_of_block (heyvl.block_of (statements j a)) ++ locals_of_block (heyvl.block_of (statements k b))) ≡ picks_in a + picks_in b
 sides_count j k a b = length-append (locals_of_block (heyvl.block_of (statements j a))) (locals_of_block (heyvl.block_of (statements k b))) ∙ ap₂ (λ x y. x + y) (count j a) (count k b)
 
--- ---- Rules that are kept
+-- ---- Static rules that hold
 
 abbrev AllKept : List (ℕ × Bool) → Type 0
 AllKept [] = Unit {0}
 AllKept (rule ∷ rules) = (rule.1 ≡ false) × AllKept rules
 
--- Each rule of a node is kept where nothing is found against it.
 all_kept : (s : Span) (rules : List (ℕ × Bool)) → at s rules ≡ [] → AllKept rules
 all_kept s [] e = tt
 all_kept s (rule ∷ rules) e = go rule.1 refl e (all_kept s rules)
@@ -129,7 +128,7 @@ module _ (own : Scope) (v size : ℕ) (q : Procedure) (called : Called) where
   flip_is : (n : ℕ) (sc : Scope) (x : ℕ) (p : Expression) (s : Span) → InScope v own sc → IsQuiet p → literal_wrong n sc (RightSide.flip p) ≡ false → has_over_zero (RightSide.flip p) ≡ false → Flips own v p x (flip_act n sc x p s)
   flip_is n sc x p s i quiet l z = flips_are (is_weight_literal (weight p)) (weight_value (weight p)) (form (elaborate n sc p)) x p s (λ e t. literal_chance p own (environment t) e (literal_likely (is_weight_literal (weight p)) (is_probability (weight p)) (has_variable (form (elaborate n sc p))) l e, z)) (form_same n sc i p quiet)
 
-  -- ---- Commands, of which the blocks and what follows match
+  -- ---- Commands whose blocks and successors match
 
   abbrev MatchesNext : CommandTree → BlockTree → Acts → Type 0
   MatchesNext l tail acts = Matches own v size (BlockTree.next l tail) acts
@@ -159,7 +158,7 @@ module _ (own : Scope) (v size : ℕ) (q : Procedure) (called : Called) where
 
   -- ---- All commands
 
-  -- What comes behind a command.
+  -- The statements after a command match the commands after it.
   abbrev Follows : BlockTree → List Statement → Bool → ℕ → Type 0
   Follows tail rest bound n = (k : ℕ) → k ≡ n → (m : ℕ) (sc : Scope) → InScope v own sc → block_findings (setting q) called bound k sc (heyvl.block_of rest) ≡ [] → Matches own v size tail (block_acts (setting q) called k m sc (heyvl.block_of rest))
 

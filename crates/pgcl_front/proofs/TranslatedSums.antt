@@ -1,4 +1,4 @@
--- What is translated has the sums of its program.
+-- The translation of a program has the sums of the program.
 use Rattle.guarded_commands.specs.declared.stops.PgclStop.{PgclStop}
 use Rattle.heyvl_syntax.specs.Procedures.{procedures}
 use Rattle.heyvl_syntax.specs.declared.procedures.File.{File}
@@ -8,7 +8,6 @@ use Rattle.pgcl_front.proofs.MainSums.{sums_are_equal}
 use Rattle.pgcl_front.specs.EqualSums.{HasTranslatedSums}
 use Rattle.std.proofs.Common.{Err, IfOk, List, Ok, Result}
 
--- Whichever file is given, it has the sums of the program that these tokens spell, if they are translated to it.
 pub translated_sums : (tokens : List Token) (r : Result File PgclStop) → IfOk r (λ file. HasTranslatedSums tokens (procedures file))
 translated_sums tokens (Ok file) = λ t faultless. record {
   equal = sums_are_equal tokens (procedures file) t faultless;

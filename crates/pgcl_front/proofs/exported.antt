@@ -1,2 +1,2 @@
--- Lemmas that are meant for the proofs of other crates. All else in proofs/ is private to this crate.
+-- The lemmas that other crates may cite. All other proofs are private.
 pub mod EqualSums

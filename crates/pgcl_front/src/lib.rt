@@ -1,5 +1,8 @@
-//! The front end of the guarded command language with probabilistic and nondeterministic choice: the file of HeyVL that the tokens of a
-//! program become, the runs of the program, and that their sums are those of this file.
+//! The front end for guarded commands with probabilistic and nondeterministic choice: the
+//! translation of a program to a HeyVL file, the runs of the program, and the law that their sums
+//! are those of this file.
+//!
+//! `AllocError` means that memory ran out.
 #![tactic(auto)]
 
 mod laws;

@@ -1,4 +1,4 @@
-//! The file that tokens of a program become, with the sums of the program.
+//! The translation of a program to a file with the same sums.
 
 ghost use Rattle.guarded_commands.specs.ProgramFaults.{IsPgclMemory, IsThisPgclStop};
 ghost use Rattle.guarded_commands.specs.Programs.{ProgramTree};
@@ -14,18 +14,34 @@ use guarded_commands::PgclStop;
 use heyvl_syntax::{File, Token};
 use std::alloc::Global;
 
-/// The file that the tokens become, where they are fewer than 2^31: one coproc `main`, whose inputs are the start values of the
-/// variables and whose outputs are the variables. It is refused where the tokens have a fault as a program, with the first one of them:
-/// 5 where the load passes 200; else 30 at the first token with which no program goes on, a `sup` or `inf` among them, or at the number
-/// of tokens where they end too early; else 31 at the first word that begins with `init_` or `pick_`, or that declares `skip`; and for
-/// want of memory. A file without a static fault has the sums of the program: the upper sums of the program's runs, by the steps of
-/// guarded commands, are those of `main`, and where the bound of `main` holds, each of them is at most the program's pre.
+/// Returns the file of the program that `tokens` spell: one coproc `main`, whose inputs are the
+/// start values of the variables and whose outputs are the variables.
+///
+/// If the file has no static error, it has the sums of the program: the upper sums of the program's
+/// runs, by the steps of guarded commands, are those of `main`, and if the bound of `main` holds,
+/// each of them is at most the program's pre.
+///
+/// # Errors
+///
+/// The error is the first of these that applies.
+///
+/// - 5: the nesting depth is larger than 200.
+/// - 30: the tokens spell no program. The place is that of the first token that no program has
+///   after the tokens before it (such as a `sup` or `inf`), or the number of tokens if they end too
+///   early.
+/// - 31: an identifier begins with `init_` or `pick_`, or the identifier `skip` is declared. The
+///   place is that of the first one.
+///
+/// `Memory`: memory ran out.
 pub fn translate(alloc: Global, tokens: &[Token]) -> Result<File, PgclStop>
     requires { length tokens.now < 2 ^ 31 }
     ensures found { IfOk result (λ file. IsTranslation tokens.now (procedures file)) }
-    ensures only { (program : ProgramTree) → IsTranslatable program tokens.now → MatchResult result (λ file. procedures file ≡ translated (first_place tokens.now) program ∷ []) (λ stop. IsPgclMemory stop) }
+    ensures only { (program : ProgramTree) → IsTranslatable program tokens.now
+        → MatchResult result (λ file. procedures file ≡ translated (first_place tokens.now) program
+        ∷ []) (λ stop. IsPgclMemory stop) }
     ensures fault { IfErr result (λ stop. IsTranslationStop tokens.now stop) }
-    ensures only_fault { (number i : ℕ) → IsTranslationFault tokens.now number i → MatchResult result (λ _. ⊥) (λ stop. IsThisPgclStop number i stop) }
+    ensures only_fault { (number i : ℕ) → IsTranslationFault tokens.now number i
+        → MatchResult result (λ _. ⊥) (λ stop. IsThisPgclStop number i stop) }
     ensures sums { IfOk result (λ file. HasTranslatedSums tokens.now (procedures file)) }
 {
     guarded_commands::translate(alloc, tokens)

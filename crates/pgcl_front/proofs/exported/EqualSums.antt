@@ -1,3 +1,3 @@
--- Meant for the proofs of other crates. Equal sums of guarded commands and of their coproc, and bounds that carry over.
+-- Equal sums of guarded commands and of their coproc, and bounds that carry over.
 pub use Rattle.pgcl_front.proofs.MainBounds.{bounds_carry_over}
 pub use Rattle.pgcl_front.proofs.MainSums.{sums_are_equal}
