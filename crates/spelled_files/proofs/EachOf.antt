@@ -1,10 +1,9 @@
--- What holds of each of a list, and of each act in the order of the text.
+-- Properties of each item of a list, and of each act in the order of the text.
 use Rattle.heyvl_acts.specs.Acts.{Act, Acts, join}
 use Rattle.heyvl_acts.specs.Places.{in_order, inside}
 use Rattle.heyvl_acts.specs.Rules.{Each}
 use Rattle.std.proofs.Common.{List, [], append_assoc, map, refl, subst, sym, ◌∷◌, ◌++◌, ◌≡◌}
 
--- The acts of two lists, one after the other.
 in_order_join : (a b : Acts) → in_order (join a b) ≡ in_order a ++ in_order b
 in_order_join Acts.done b = refl
 in_order_join (Acts.next x more) b = rw (in_order_join more b, append_assoc) refl
@@ -34,10 +33,8 @@ pub each_two : {A : Type 0} (P Q : A → Type 0) (xs : List A) → Each P xs →
 each_two P Q [] p q = tt
 each_two P Q (x ∷ xs) p q = ((p.0, q.0), each_two P Q xs p.1 q.1)
 
--- What holds of each act of a list and of another holds of each of both.
 pub each_join : (P : Act → Type 0) (a b : Acts) → Each P (in_order a) → Each P (in_order b) → Each P (in_order (join a b))
 each_join P a b p q = subst (Each P) (sym (in_order_join a b)) (each_both P (in_order a) (in_order b) p q)
 
--- What holds of each act of a list that is an act alone.
 pub each_one : (P : Act → Type 0) (a : Act) → P a → Each P (inside a) → Each P (in_order (Acts.next a Acts.done))
 each_one P a p q = (p, each_both P (inside a) [] q tt)

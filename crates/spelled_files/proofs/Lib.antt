@@ -1,4 +1,5 @@
 mod EachOf
+mod FaultExamples
 mod Meanings
 mod ProgramSums
 mod SmallForms

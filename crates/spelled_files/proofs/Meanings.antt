@@ -1,4 +1,5 @@
--- What holds of forms and conditions where it holds of their parts holds of what the table of expressions makes: row by row.
+-- A property of forms and conditions that holds for their parts holds for elaborated expressions,
+-- row by row of the table of expressions.
 use Rattle.heylo_formula.specs.Formula.{Cond, Form}
 use Rattle.heylo_formula.specs.Typing.{NumberType, is_unsigned, join}
 use Rattle.heylo_formula.specs.declared.types.Ty.{Ty}
@@ -20,8 +21,8 @@ use Rattle.typed_expressions.specs.Scopes.{Scope, find}
 use Rattle.typed_expressions.specs.Table.{Meaning, binary, bound, bracket, choice, comparison, declarable, divisor, embedding, extended, factor, given, joined_numbers, literal, minus, numbers, quantified, quotient, selected, truths, unary, variable, variable_of}
 use Rattle.typed_expressions.specs.TypedExpressions.{operated}
 
--- It holds of a form and a condition where it holds of the parts, and of a product where something holds of its place; of binders it
--- says nothing.
+-- `F` holds for a form, and `G` for a condition, if they hold for the parts, and for a product if
+-- `P` holds for its place. Binders are left out.
 pub record Spreads (F : Form → Type 0) (G : Cond → Type 0) (P : Span → Type 0) : Type 0 where
   pub number : (v : Value) → F (Form.number v)
   pub variable : (x : ℕ) → F (Form.variable x)
@@ -54,7 +55,7 @@ module _ (F : Form → Type 0) (G : Cond → Type 0) where
   HoldsOf (Meaning.number t a) = F a
   HoldsOf Meaning.real = Unit {0}
 
-  -- Where it becomes something, it holds of that.
+  -- The property holds for the meaning, if there is one.
   abbrev pub Holds : Option Meaning → Type 0
   Holds None = Unit {0}
   Holds (Some m) = HoldsOf m

@@ -1,4 +1,5 @@
--- The file that a program becomes has its sums, and so has each file that its text spells.
+-- The file of a program has its sums, and so has each file that the canonical text of this file
+-- spells.
 use Rattle.spelled_files.specs.PrintLaws.{SpellingIsUnique}
 use Rattle.spelled_files.specs.Programs.{IsProgramFile, ProgramFilesAreSpelled, ProgramFilesHaveSums, program_of}
 use Rattle.heyvl_print.specs.Canonical.{canonical_text}
@@ -10,13 +11,11 @@ use Rattle.pgcl_front.specs.Programs.{ProgramTree}
 use Rattle.placeless_files.specs.PlacelessRuns.{BoundsIgnorePlaces, StatesIgnorePlaces, SumsIgnorePlaces}
 use Rattle.std.proofs.Common.{List, length, subst, sym, true, ◌+◌, ◌∙◌, ℕ}
 
--- What the canonical text of a program's file spells is this file, up to places.
 spells_the_same : ProgramFilesAreSpelled → SpellingIsUnique → (bytes : List ℕ) (file other : List Procedure) → IsProgramFile bytes file → Spells (canonical_text file) other → SameButPlaces file other
 spells_the_same spelled unique bytes file other p h =
     let again = spelled bytes file p in
     subst (λ (f : List Procedure). SameButPlaces file f) (unique (canonical_text file) again.0 other again.1 h) again.2
 
--- Files that differ in places alone have the sums of a program alike.
 sums_kept : StatesIgnorePlaces → SumsIgnorePlaces → BoundsIgnorePlaces → (program : ProgramTree) (file other : List Procedure) → SameButPlaces file other → HasSumsOf program file → HasSumsOf program other
 sums_kept states sums bounds program file other e h = record {
   equal = λ start st n tree. h.equal start (states other file (sym e) 0 start st) n tree ∙ sums file other e true 0 (n + length program.declarations) start tree;

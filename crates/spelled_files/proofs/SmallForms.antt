@@ -19,7 +19,7 @@ use Rattle.std.proofs.Common.{List, None, Option, Some, [], arith, length, map, 
 use Rattle.std.proofs.lemmas.List.Sums.{sum_by-cons}
 use Rattle.std.specs.List.{sum_by}
 
--- ---- What is within a number of nodes is within a greater one
+-- ---- Larger limits of nodes
 
 module _ (n m : ℕ) (le : n ≤ m) where
   guards_more : (arms : Arms) → GuardsWithin n arms → GuardsWithin m arms

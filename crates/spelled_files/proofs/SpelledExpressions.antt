@@ -1,4 +1,5 @@
--- The products in what expressions become begin within the bytes of the text: each has the place of its operator.
+-- The products of elaborated expressions begin within the bytes of the text: each has the place of
+-- its operator.
 use Rattle.spelled_files.proofs.Meanings.{Holds, Spreads, bracketed_holds, chosen_holds, embedded_holds, infixed_holds, literal_holds, name_holds, prefixed_holds, quantified_holds}
 use Rattle.spelled_files.proofs.SpelledParts.{Gives, any, here, within, ◌before◌}
 use Rattle.heyvl_syntax.specs.Expressions.{Expression}
@@ -11,7 +12,7 @@ use Rattle.typed_expressions.specs.TypedExpressions.{elaborate}
 use Rattle.std.proofs.Common.{None, Option, Some, suc, ◌≤◌, ℕ}
 use Rattle.heyvl_acts.specs.StandingParts.{CondStands, FormStands, TermStands}
 
--- Where it becomes something, that stands within so many bytes.
+-- If there is a meaning, its places are within `n` bytes.
 abbrev pub Stands : ℕ → Option Meaning → Type 0
 Stands n o = Holds (FormStands n) (CondStands n) o
 

@@ -1,5 +1,5 @@
--- What holds of the procedures of a file that tokens spell, each of which begins within so many bytes; and the procedures of a file
--- stand within the bytes of its text.
+-- Properties of the procedures of a file whose tokens begin within `n` bytes; and that the places
+-- of a file are within the bytes of its text.
 use Rattle.spelled_files.proofs.EachOf.{each_mapped, each_weaker}
 use Rattle.spelled_files.proofs.SpelledExpressions.{ExpressionStands, expr, form_stands}
 use Rattle.spelled_files.proofs.SpelledParts.{ArePlaced, Gives, any, each, tokens_inside, within, ◌before◌}
@@ -24,7 +24,7 @@ use Rattle.typed_expressions.specs.DeclaredVariables.{front_variables}
 use Rattle.std.proofs.Common.{Bool, List, None, Option, Some, [], false, length, subst, true, ◌+◌, ◌∷◌, ℕ}
 use Rattle.heyvl_acts.specs.StandingParts.{ActStands, FormStands, StandsWithin}
 
--- What holds of a procedure that a text spells, whose tokens begin within so many bytes.
+-- The properties of a procedure whose tokens begin within `n` bytes.
 pub record HasSpelledParts (n : ℕ) (p : TypedProcedure) : Type 0 where
   pub pre : FormStands n p.pre
   pub post : FormStands n p.post

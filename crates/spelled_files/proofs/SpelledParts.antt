@@ -1,4 +1,4 @@
--- What follows from a text of a production, where each token begins within so many bytes: it follows from the parts of the text.
+-- Consequences of a text of a production whose tokens begin within `n` bytes, from its parts.
 use Rattle.heyvl_syntax.specs.Productions.{IsAt, IsEach, IsList, IsList0, IsMore, extent, ◌then◌}
 use Rattle.heyvl_syntax.specs.TokenLaws.{StandInOrder}
 use Rattle.heyvl_places.specs.declared.spans.Span.{Span}
@@ -10,11 +10,10 @@ use Rattle.std.proofs.Common.{List, [], ap, arith, length, subst, ◌++◌, ◌�
 
 -- ---- Tokens
 
--- Each token begins within so many bytes.
+-- Each token begins within `n` bytes.
 abbrev pub ArePlaced : ℕ → List Token → Type 0
 ArePlaced n = Each (λ t. t.span.from ≤ n)
 
--- What begins with the first token begins within them too.
 pub begins : (n : ℕ) (ts : List Token) → ArePlaced n ts → (s : Span) → s ≡ extent ts → s.from ≤ n
 begins n [] h s e = let f = ap (λ (s : Span). s.from) e in omega (arith, f)
 begins n (t ∷ ts) h s e = let f = ap (λ (s : Span). s.from) e in omega (arith, f, h.0)
@@ -30,7 +29,7 @@ tokens_inside bytes ts h = (inside 0 bytes ts h).1
 
 -- ---- Productions
 
--- From a text of this production follows this.
+-- `Q` follows if some tokens that begin within `n` bytes are a text of the production `P`.
 pub record Gives (n : ℕ) (P : List Token → Type 0) (Q : Type 0) : Type 0 where
   pub reads : (ts : List Token) → ArePlaced n ts → P ts → Q
 
@@ -52,7 +51,6 @@ pub ◌before◌ : {n : ℕ} {P R : List Token → Type 0} {A B : Type 0} → Gi
         let both : ArePlaced n (front ++ back) = subst (ArePlaced n) e h in
         (p.reads front (each_front (λ t. t.span.from ≤ n) front back both) first, r.reads back (each_back (λ t. t.span.from ≤ n) front back both) second)
 
--- The items of a sequence.
 pub each : {n : ℕ} {A : Type 0} (P : A → List Token → Type 0) (Q : A → Type 0) → ((x : A) → Gives n (P x) (Q x)) → (xs : List A) → Gives n (IsEach P xs) (Each Q xs)
 each P Q item [] = record { reads = λ ts h p. tt }
 each P Q item (x ∷ xs) = item x before each P Q item xs

@@ -1,4 +1,5 @@
--- The acts of statements, and the products in their forms, begin within the bytes of the text; and each If has an arm.
+-- The acts of statements, and the products of their forms, begin within the bytes of the text; and
+-- each `if` has an arm.
 use Rattle.spelled_files.proofs.EachOf.{each_both, each_join}
 use Rattle.spelled_files.proofs.SpelledExpressions.{ExpressionStands, condition_stands, expr, form_stands, term_stands}
 use Rattle.spelled_files.proofs.SpelledParts.{ArePlaced, Gives, any, begins, each, items, items0, within, ◌before◌}
@@ -34,7 +35,7 @@ abbrev HasSomeArm : Arms → Type 0
 HasSomeArm Arms.no_arm = ⊥
 HasSomeArm (Arms.arm g b more) = Unit {0}
 
--- An If has an arm.
+-- If the act is an `if`, it has an arm.
 abbrev pub IsArmed : Act → Type 0
 IsArmed (Act.ifs arms e span) = HasSomeArm arms
 IsArmed (Act.set x t span) = Unit {0}
@@ -48,7 +49,7 @@ IsArmed (Act.validate co span) = Unit {0}
 IsArmed (Act.loop h b) = Unit {0}
 IsArmed (Act.call xs p es span) = Unit {0}
 
--- What holds of an act that a text spells, whose tokens begin within so many bytes.
+-- The properties of an act whose tokens begin within `n` bytes.
 abbrev pub IsSpelled : ℕ → Act → Type 0
 IsSpelled n a = IsArmed a × ActStands n a
 
@@ -76,7 +77,7 @@ module _ (n : ℕ) where
   flip_stands true x w f s l h = ((tt, (l, (tt, (tt, tt)))), tt)
   flip_stands false x w f s l h = ((tt, (l, h)), tt)
 
-  -- What gives it to variables stands where the statement does.
+  -- The acts that assign the right side to variables are within the text if the statement is.
   abbrev RightStands : RightSide → Type 0
   RightStands r = (c : Called) (k : ℕ) (sc : Scope) (xs : List ℕ) (s : Span) → s.from ≤ n → Each (IsSpelled n) (in_order (Acts.next (assigned c k sc xs r s) Acts.done))
 
@@ -182,7 +183,7 @@ module _ (n : ℕ) where
     abbrev BlockStands : Block → Type 0
     BlockStands b = (k m : ℕ) (sc : Scope) → Each (IsSpelled n) (in_order (block_acts (setting q) c k m sc b))
 
-    -- The guards stand, and so do the acts in the blocks.
+    -- The guards are within the text, and so are the acts of the blocks.
     abbrev ArmsStand : text.Arms → Type 0
     ArmsStand arms = (k m : ℕ) (sc : Scope) → GuardsStand n (arms_acts (setting q) c k m sc arms) × Each (IsSpelled n) (inside_arms (arms_acts (setting q) c k m sc arms))
 

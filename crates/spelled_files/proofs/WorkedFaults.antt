@@ -1,4 +1,4 @@
--- Worked faults: the line on each static fault, and what `verify` says of two files.
+-- Worked errors: the line on each static error, and the replies of `verify` to two files.
 use Rattle.heyvl_num.specs.Gcd.{gcd, gcd_steps}
 use Rattle.heyvl_num.specs.Rational.{leqʳ, oneʳ, ratio, zeroʳ}
 use Rattle.heyvl_places.specs.declared.spans.Span.{Span}
@@ -26,7 +26,7 @@ half from = Expression.binary BinaryOp.Slash (whole 1 from) (whole 2 (from + 2))
 abbrev b : List ℕ
 b = codes "b"
 
--- A coproc over one output b of Bool with the post `[b]` and one statement.
+-- A coproc with one output b of Bool, the post `[b]` and one statement.
 abbrev over_b : List ℕ → Expression → ℕ → ℕ → Statement → ℕ → List Procedure
 over_b name pre output post statement end =
     record {

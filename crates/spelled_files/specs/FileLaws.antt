@@ -1,4 +1,4 @@
--- The laws of files that tokens spell: what holds of the typed procedures that they become.
+-- Laws of files that tokens spell, and of their typed procedures. This project's own.
 use Rattle.heyvl_acts.specs.FormSizes.{FormsWithin}
 use Rattle.heyvl_acts.specs.Rules.{Each}
 use Rattle.heyvl_syntax.specs.Grammar.{IsFile}
@@ -9,10 +9,13 @@ use Rattle.static_rules.specs.Files.{file_findings, resolved}
 use Rattle.std.specs.Prelude.{List, [], length, ◌^◌, ◌≡◌, ◌≤◌, ℕ}
 use Rattle.heyvl_acts.specs.StandingParts.{StandsWithin}
 
--- In a file of at most 2^20 tokens in which nothing is found, each form and condition has at most 2^27 nodes.
+-- In a file of at most 2^20 tokens without a static error, each form and condition has at most 2^27
+-- nodes.
 abbrev pub FilesHaveSmallForms : Type 0
-FilesHaveSmallForms = (file : List Procedure) (tokens : List Token) → IsFile file tokens → file_findings file ≡ [] → length tokens ≤ 2 ^ 20 → Each (FormsWithin (2 ^ 27)) (resolved file)
+FilesHaveSmallForms = (file : List Procedure) (tokens : List Token) → IsFile file tokens
+    → file_findings file ≡ [] → length tokens ≤ 2 ^ 20 → Each (FormsWithin (2 ^ 27)) (resolved file)
 
 -- In a file that bytes spell, each statement and each product in a form begins within the bytes.
 abbrev pub FilesStandWithin : Type 0
-FilesStandWithin = (bytes : List ℕ) (tokens : List Token) (file : List Procedure) → Lexes 0 bytes tokens → IsFile file tokens → Each (StandsWithin (length bytes)) (resolved file)
+FilesStandWithin = (bytes : List ℕ) (tokens : List Token) (file : List Procedure)
+    → Lexes 0 bytes tokens → IsFile file tokens → Each (StandsWithin (length bytes)) (resolved file)

@@ -1,8 +1,9 @@
-//! The line on a file that has a fault.
+//! The line on a file with an error.
 
 ghost use Rattle.heyvl_places.specs.Places.{place_at};
 ghost use Rattle.heyvl_syntax.specs.SourceFaults.{token_place};
-ghost use Rattle.spelled_files.specs.FaultTexts.{fault_text, program_texts, source_fault_line, static_texts, text_in};
+ghost use Rattle.spelled_files.specs.FaultTexts.{fault_text, program_texts, source_fault_line};
+ghost use Rattle.spelled_files.specs.FaultTexts.{static_texts, text_in};
 ghost use Rattle.std.specs.Prelude.{IfOk, OnOk, decimal, length, ◌++◌, ◌<◌, ◌^◌, ◌≡◌};
 
 use heyvl_places::{Place, Span, place_at};
@@ -10,7 +11,7 @@ use heyvl_syntax::Token;
 use itoa::Buffer;
 use std::alloc::{AllocError, Global};
 
-/// The text of a static fault, or of a fault of a program of guarded commands.
+/// Returns the text of a static error, or of an error of a program of guarded commands.
 fn static_text(number: u8) -> &'static [u8]
     ensures { result.now ≡ text_in (static_texts ++ program_texts) number }
 {
@@ -36,7 +37,7 @@ fn static_text(number: u8) -> &'static [u8]
     }
 }
 
-/// The text of a fault.
+/// Returns the text of an error.
 fn fault_text(number: u8) -> &'static [u8]
     ensures { result.now ≡ fault_text number }
 {
@@ -58,7 +59,7 @@ fn write_number(text: &mut Vec<u8>, number: u32) -> Result<(), AllocError>
     text.extend_from_slice(buffer.format(number).as_bytes())
 }
 
-/// The place of the token with this index, or the end of the bytes where there is none.
+/// Returns the place of the token with this index, or the end of the bytes if there is none.
 pub fn token_place(bytes: &[u8], tokens: &[Token], index: u32) -> Span
     requires { length bytes.now < 2 ^ 31 }
     ensures { result ≡ token_place bytes.now tokens.now index }
@@ -72,7 +73,8 @@ pub fn token_place(bytes: &[u8], tokens: &[Token], index: u32) -> Span
     }
 }
 
-/// The line and column at which a span begins. One that begins behind the bytes counts as their end.
+/// Returns the line and column at which a span begins. A span that begins after the bytes is at
+/// their end.
 fn begins_at(bytes: &[u8], span: Span) -> Place
     requires { length bytes.now < 2 ^ 31 }
     ensures { result ≡ place_at bytes.now span.from }
@@ -85,7 +87,7 @@ fn begins_at(bytes: &[u8], span: Span) -> Place
     }
 }
 
-/// `LINE:COLUMN: fault NUMBER: TEXT`, for a fault of a file with these bytes.
+/// Returns the line `LINE:COLUMN: fault NUMBER: TEXT` on an error of a file with these bytes.
 pub fn source_fault_line(
     alloc: Global,
     bytes: &[u8],

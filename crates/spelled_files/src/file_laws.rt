@@ -1,10 +1,12 @@
-//! Laws of files that bytes spell and in which nothing is found. Each function does nothing: its contract is the law.
+//! Laws of files that bytes spell and that have no static error. Each function does nothing: its
+//! contract is the law.
 
 ghost use Rattle.spelled_files.specs.FileLaws as law;
 
 use resolved_laws::resolved_forms_are_small;
 
-/// Each form and condition of a file of at most 2^20 tokens in which nothing is found has at most 2^27 nodes.
+/// In a file of at most 2^20 tokens without a static error, each form and condition has at most
+/// 2^27 nodes.
 pub fn files_have_small_forms()
     ensures { law.FilesHaveSmallForms }
 {

@@ -1,4 +1,7 @@
-//! Files that bytes spell, and files that programs of guarded commands become: what they are, and their laws.
+//! Files that bytes spell and files of programs of guarded commands: their definitions, and their
+//! laws.
+//!
+//! `AllocError` means that memory ran out.
 #![tactic(auto)]
 
 mod fault_lines;

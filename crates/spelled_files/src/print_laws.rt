@@ -6,7 +6,7 @@ use heyvl_parse::file_is_unique;
 use heyvl_print::printing_is_stable;
 use heyvl_syntax::tokens_are_unique;
 
-/// Some bytes spell at most one file, places included.
+/// Bytes spell one file at most, places included.
 pub fn spelling_is_unique()
     ensures { SpellingIsUnique }
 {
@@ -14,7 +14,8 @@ pub fn spelling_is_unique()
     file_is_unique();
 }
 
-/// Printing what was printed gives the same bytes, where what was printed is within the limits of a file.
+/// Printing a printed text again yields the same bytes, if the printed text is within the limits of
+/// a file.
 pub fn printed_text_prints_itself()
     ensures { PrintedTextPrintsItself }
 {

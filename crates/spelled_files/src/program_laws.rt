@@ -1,6 +1,9 @@
-//! Laws of files that programs of guarded commands become. Each function does nothing: its contract is the law.
+//! Laws of the files of programs of guarded commands. Each function does nothing: its contract is
+//! the law.
 
-ghost use Rattle.spelled_files.specs.Programs.{ProgramFaultIsUnique, ProgramFileIsUnique, ProgramFilesAreSpelled, ProgramFilesHaveNoFault, ProgramFilesHaveSums};
+ghost use Rattle.spelled_files.specs.Programs.{ProgramFaultIsUnique, ProgramFileIsUnique};
+ghost use Rattle.spelled_files.specs.Programs.{ProgramFilesAreSpelled, ProgramFilesHaveNoFault};
+ghost use Rattle.spelled_files.specs.Programs.{ProgramFilesHaveSums};
 
 use crate::print_laws::spelling_is_unique;
 use pgcl_front::{
@@ -8,8 +11,8 @@ use pgcl_front::{
 };
 use placeless_files::places_do_not_run;
 
-/// A program becomes at most one file without a static fault, has at most one first fault, and never both; and the canonical text of its
-/// file spells this file again, up to places.
+/// A program has either one file without a static error or one first error, and never both. The
+/// canonical text of its file spells this file again, up to places.
 pub fn program_files_are_unique()
     ensures file { ProgramFileIsUnique }
     ensures fault { ProgramFaultIsUnique }
@@ -20,8 +23,9 @@ pub fn program_files_are_unique()
     translations_are_spelled();
 }
 
-/// The upper sums of a program's runs, by the steps of guarded commands, are those of the runs of `main` in the file that the program becomes; and
-/// where the bound of `main` holds, each of them is at most the program's pre. The same holds of each file that the file's canonical text
+/// The upper sums of a program's runs, by the steps of guarded commands, are those of the runs of
+/// `main` in the program's file; and if the bound of `main` holds, each of them is at most the
+/// program's pre. Both are also true of each file that the canonical text of the program's file
 /// spells.
 pub fn program_files_have_sums()
     ensures { ProgramFilesHaveSums }

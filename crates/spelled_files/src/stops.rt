@@ -1,4 +1,4 @@
-//! Why bytes are refused as a file.
+//! Errors of reading a file.
 
 ghost use Rattle.spelled_files.specs.declared.stops.SourceStop.TheVariants.{Memory};
 ghost use Rattle.std.specs.Prelude.{◌≡◌};
@@ -10,7 +10,7 @@ use thiserror::Error;
 /// Why bytes are refused as a file.
 #[derive(Clone, Copy, Debug, Error)]
 pub enum SourceStop {
-    /// The file has the fault of this number, which stands there.
+    /// The file has the error of this number, at this place.
     #[error("fault {0}")]
     Fault(u8, Span),
     /// Memory ran out.

@@ -1,4 +1,4 @@
--- In a file that tokens spell each If has an arm, and so it is in a file that a program becomes.
+-- In a file that tokens spell, each `if` has an arm; and so it is in the file of a program.
 use Rattle.pgcl_front.specs.Programs.{BlockTree, CommandTree, ProgramTree}
 use Rattle.pgcl_front.specs.Sources.{IsPgclSource}
 use Rattle.pgcl_front.specs.Translation.{first_place, lines, picks, picks_in, start, statements, translated}
@@ -13,7 +13,7 @@ use Rattle.heyvl_syntax.specs.declared.tokens.Token.{Token}
 use Rattle.static_rules.specs.ArmedFiles.{AreArmsArmed, HasArm, HasArms, IsArmed, IsBlockArmed, IsBodyArmed}
 use Rattle.std.proofs.Common.{List, None, Option, Some, [], arith, map, subst, sym, ◌+◌, ◌++◌, ◌∷◌, ◌≤◌, ℕ}
 
--- ---- What tokens spell
+-- ---- Files that tokens spell
 
 module _ (n : ℕ) where
   mutual
@@ -66,7 +66,6 @@ module _ (n : ℕ) where
         (within (any _ before any _ before any _ before any _ before any _ before any _ before any _ before any _ before any _ before any _ before any _ before body_armed p.body) ts h i.0).1.1.1.1.1.1.1.1.1.1.1;
   }
 
--- A number of bytes within which each token begins.
 far : List Token → ℕ
 far [] = 0
 far (t ∷ ts) = t.span.from + far ts
@@ -80,7 +79,7 @@ pub spelled_armed : (file : List Procedure) (tokens : List Token) → IsFile fil
 spelled_armed file tokens is_file =
     within (each IsProc (λ p. IsBodyArmed p.body) (procedure_armed (far tokens)) file) tokens (placed (far tokens) tokens (omega arith)) is_file
 
--- ---- What a program becomes
+-- ---- Files of programs
 
 both_armed : (xs ys : List Statement) → IsBlockArmed (block_of xs) → IsBlockArmed (block_of ys) → IsBlockArmed (block_of (xs ++ ys))
 both_armed [] ys h k = k

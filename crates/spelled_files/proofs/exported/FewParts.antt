@@ -1,5 +1,5 @@
--- A file that tokens spell has few variables and few loops in each procedure, since each takes a token of its own; and so has a file that a
--- program becomes.
+-- In a file that tokens spell, each procedure has few variables and few loops, as each has its own
+-- token; and so it is in the file of a program.
 use Rattle.spelled_files.specs.Sources.{file_limit}
 use Rattle.heyvl_places.specs.declared.spans.Span.{Span}
 use Rattle.heyvl_syntax.proofs.exported.InOrder.{tokens_few}
@@ -30,7 +30,7 @@ use Rattle.std.proofs.Common.{List, None, Option, Some, [], ap, arith, inl, inr,
 use Rattle.std.proofs.lemmas.List.{length-map}
 use Rattle.typed_expressions.specs.DeclaredVariables.{front_variables, fronts_variables}
 
--- A text of this production has so many tokens or more.
+-- Each text of the production `P` has at least `n` tokens.
 record Counts (n : ℕ) (P : List Token → Type 0) : Type 0 where
   few : (ts : List Token) → P ts → n ≤ length ts
 
@@ -60,7 +60,6 @@ infixr 30 ◌beside◌
 braced : {n : ℕ} {P : List Token → Type 0} → Counts n P → Counts n (IsBraced P)
 braced g = record { few = λ ts h. let x = (any _ beside g beside any _).few ts h in omega (arith, x) }
 
--- Items of one token or more.
 each : {A : Type 0} (P : A → List Token → Type 0) → ((x : A) → Counts 1 (P x)) → (xs : List A) → Counts (length xs) (IsEach P xs)
 each P item [] = any _
 each P item (x ∷ xs) = record { few = λ ts h. let n = (item x beside each P item xs).few ts h in omega (arith, n) }
@@ -73,9 +72,9 @@ items : {A : Type 0} (P : A → List Token → Type 0) → ((x : A) → Counts 1
 items P item [] = any _
 items P item (x ∷ xs) = record { few = λ ts h. let n = (item x beside more P item xs).few ts h in omega (arith, n) }
 
--- ---- What tokens spell
+-- ---- Files that tokens spell
 
--- The variables and the loops of statements.
+-- The number of variables and loops of a statement.
 abbrev parts : Statement → ℕ
 parts x = length (locals x) + loops x
 
@@ -140,7 +139,6 @@ body : (b : Option Block) → Counts (length (locals_of_body b) + loops_of_body 
 body None = any _
 body (Some b) = braced (block b)
 
--- The variables of quantifiers in the front of an expression.
 front : (e : Expression) (k : ℕ) → Counts (length (front_variables e)) (IsExpr e k)
 front (Expression.bound up x t a s) k = record {
   few = λ ts h. let n = (key (quantifier_key up) beside any _ beside any _ beside any _ beside any _ beside front a 9).few ts h.1 in omega (arith, n);
@@ -191,14 +189,13 @@ each_has_few (p ∷ ps) ts (front, back, is, rest, e) few =
     let sum = length-append front back in
     (few_parts p (length front) ((procedure p).few front is) (omega (arith, both, sum, few)), each_has_few ps back rest (omega (arith, both, sum, few)))
 
--- Fewer tokens than bytes.
 tokens_within : (bytes : List ℕ) (tokens : List Token) → Lexes 0 bytes tokens → length bytes ≤ file_limit → length tokens ≤ 2 ^ 29
 tokens_within bytes tokens lexes short = let few = tokens_few bytes tokens lexes in omega (arith, few, short)
 
 pub spelled_few_parts : (bytes : List ℕ) (file : List Procedure) → IsSource bytes file → length bytes ≤ file_limit → HaveFewParts file
 spelled_few_parts bytes file source short = each_has_few file source.tokens source.is_file (tokens_within bytes source.tokens source.lexes short)
 
--- ---- What a program becomes
+-- ---- Files of programs
 
 abbrev parts_of_all : List Statement → ℕ
 parts_of_all xs = parts_of_block (block_of xs)

@@ -1,4 +1,4 @@
--- A file within the limits has at most 1,024 procedures, and a program becomes one.
+-- A file within the limits has at most 1,024 procedures, and the file of a program has one.
 use Rattle.heyvl_acts.specs.PlainActs.{procedure_of, procedures_of}
 use Rattle.heyvl_acts.specs.declared.typed_trees.Typed.{Typed}
 use Rattle.heyvl_syntax.specs.Grammar.{IsFile, IsProc, proc_key}
@@ -14,7 +14,6 @@ use Rattle.std.proofs.Common.{Bool, List, [], ap, arith, cond, false, length, re
 use Rattle.std.proofs.lemmas.List.{length-map}
 use Rattle.std.proofs.lemmas.List.Recursion.{is_count_by}
 
--- How many of the tokens are `proc` or `coproc`.
 keys : List Token → ℕ
 keys [] = 0
 keys (t ∷ ts) = cond (is_procedure_key t.kind) (1 + keys ts) (keys ts)
@@ -65,14 +64,12 @@ few_in_file file tokens within is =
     let same : length (procedures file) ≡ length file.procs.items = length-map file.procs.items procedure in
     omega (arith, few, same)
 
--- A file that a program becomes has one procedure.
 pub one_in_program : (bytes : List ℕ) (file : File) → IsPgclSource bytes (procedures file) → length file.procs.items < 2 ^ 31
 one_in_program bytes file source =
     let one : length (procedures file) ≡ 1 = ap length source.translation.is_file in
     let same : length (procedures file) ≡ length file.procs.items = length-map file.procs.items procedure in
     omega (arith, one, same)
 
--- The typed tree of a file that bytes spell has few procedures.
 pub few_typed : (bytes : List ℕ) (file : List Procedure) (tree : Typed) → IsSource bytes file → procedures_of tree ≡ resolved file → length tree.procs.items ≤ 1024
 few_typed bytes file tree spelled same =
     let few = few_procedures file spelled.tokens spelled.within spelled.is_file in

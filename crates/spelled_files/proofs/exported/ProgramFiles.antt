@@ -1,4 +1,4 @@
--- A program becomes one file, or has one first fault.
+-- A program has one file, or one first error.
 use Rattle.spelled_files.specs.Programs.IsProgramFault.{spelling, static}
 use Rattle.spelled_files.specs.Programs.{IsProgramStop, IsTranslationStop, ProgramFaultIsUnique, ProgramFileIsUnique, ProgramFilesAreSpelled, ProgramFilesHaveNoFault}
 use Rattle.spelled_files.specs.declared.stops.SourceStop.TheVariants.{Fault, Memory}
@@ -12,12 +12,10 @@ use Rattle.pgcl_front.specs.Translations.{TranslationsSpell}
 use Rattle.heyvl_syntax.specs.Tokens.{Stops}
 use Rattle.std.proofs.Common.{List, None, Option, Some, ap, sym, ◌∙◌, ◌≡◌, ℕ}
 
--- A fault of bytes, tokens or names is the program's.
 pub stops_program : (bytes : List ℕ) (stop : SourceStop) → IsTranslationStop bytes stop → IsProgramStop bytes stop
 stops_program bytes (Fault number place) h = spelling h
 stops_program bytes (Memory error) h = tt
 
--- A fault of bytes is the program's.
 pub unlexed_at : (bytes : List ℕ) (n m : ℕ) (p q : Span) → m ≡ n → q ≡ p → Stops 0 bytes n p → IsPgclFault bytes m q
 unlexed_at bytes n m p q e f h = unlexed (rw (e, f) h)
 

@@ -3,7 +3,7 @@ use Rattle.heyvl_syntax.specs.Procedures.{Procedure}
 use Rattle.spelled_files.proofs.print_laws.printed_text_prints_itself.Goals as goal
 use Rattle.std.proofs.Common.{List, subst, ◌≡◌}
 
--- src/printing.rt:18:1
+-- -
 pub returns : goal.returns
 returns c = λ bytes file other one two.
     let (again, spelled, stable) = c.printing_is_stable.ensures bytes file one in

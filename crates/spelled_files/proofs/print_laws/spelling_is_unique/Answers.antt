@@ -3,7 +3,7 @@ use Rattle.heyvl_syntax.specs.declared.tokens.Token.{Token}
 use Rattle.spelled_files.proofs.print_laws.spelling_is_unique.Goals as goal
 use Rattle.std.proofs.Common.{List, subst, ◌≡◌}
 
--- src/printing.rt:10:1
+-- -
 pub returns : goal.returns
 returns c = λ bytes file other one two.
     let same : one.tokens ≡ two.tokens = c.tokens_are_unique.ensures 0 bytes one.tokens two.tokens one.lexes two.lexes in
