@@ -1,4 +1,5 @@
--- Worked searches, computed by the definitions: three payments of 1, and the geometric loop with a pre of 1/2.
+-- Worked searches, computed by evaluating the definitions: three payments of 1, and the geometric
+-- loop with a pre of 1/2.
 use Rattle.std.proofs.Common.{◌≡◌, ◌∙◌, ℕ, refl, sym, ap, subst, Bool, true, false, List, [], ◌∷◌, Some, None, pos, map, arith}
 use Rattle.std.specs.Prelude.{ℤ, Option, is_some, option_map}
 use Rattle.heyvl_num.specs.Exact.{exact_sum, sum_fits, exact_product, product_fits, exact_order, order_fits}
@@ -29,7 +30,7 @@ abbrev parts : Value → ℤ × ℕ
 parts (finite x) = (x.num, x.den)
 parts infinite = (pos 1, 0)
 
--- The sum of the first procedure after so many steps, from a state and without decisions.
+-- The sum of the first procedure after `n` steps, from a state and without decisions.
 abbrev sum_after : List TypedProcedure → List Val → ℕ → Option (ℤ × ℕ)
 sum_after ps state s = option_map parts (together (unrolled_in ps 0 state [] s))
 
@@ -49,7 +50,7 @@ abbrev acts : List Act → Acts
 acts [] = Acts.done
 acts (a ∷ rest) = Acts.next a (acts rest)
 
--- A procedure with this pre and this post.
+-- A procedure with a pre and a post.
 abbrev procedure : ℕ → List Ty → List Ty → Form → Form → List Act → TypedProcedure
 procedure n outs locals pre post body = record { name = []; co = true; weak = false; inputs = []; outputs = map variable outs; locals = map variable locals; pre = pre; post = post; body = Some (acts body); loops = n; span = place }
 
@@ -62,12 +63,12 @@ payments : (sum_after pays [] 0 ≡ Some (pos 0, 1)) × (sum_after pays [] 1 ≡
 unfolding merged_onto joined scaled halfʳ ratio gcd gcd_steps zeroʳ oneʳ zeroᵛ oneᵛ ◌+ʳ◌ ◌*ʳ◌ ◌-ʳ◌ ◌+ᵛ◌ ◌*ᵛ◌ infinite_times is_zeroʳ leqʳ leqᵛ compareʳ exact_sum sum_fits exact_product product_fits exact_order order_fits
 payments = (refl, refl, refl, refl)
 
--- The second payment passes the pre.
+-- The second payment exceeds the pre.
 second_passes : PassesAt (unrolled_in pays 0 [] []) (Some (whole 1)) 9 2 (whole 2) (whole 1)
 unfolding merged_onto joined scaled halfʳ ratio gcd gcd_steps zeroʳ oneʳ zeroᵛ oneᵛ ◌+ʳ◌ ◌*ʳ◌ ◌-ʳ◌ ◌+ᵛ◌ ◌*ᵛ◌ infinite_times is_zeroʳ leqʳ leqᵛ compareʳ exact_sum sum_fits exact_product product_fits exact_order order_fits
 second_passes = record { steps = omega arith; given = refl; summed = refl; above = record { holds = refl }; before = (whole 1, (refl, record { holds = refl })) }
 
--- With one step the sum is at most the pre.
+-- After one step the sum is at most the pre.
 first_stays : StaysWithin (unrolled_in pays 0 [] []) (Some (whole 1)) 1 (whole 1) (whole 1)
 unfolding merged_onto joined scaled halfʳ ratio gcd gcd_steps zeroʳ oneʳ zeroᵛ oneᵛ ◌+ʳ◌ ◌*ʳ◌ ◌-ʳ◌ ◌+ᵛ◌ ◌*ᵛ◌ infinite_times is_zeroʳ leqʳ leqᵛ compareʳ exact_sum sum_fits exact_product product_fits exact_order order_fits
 first_stays = record { given = refl; summed = refl; within = record { holds = refl } }
@@ -89,12 +90,12 @@ geo = procedure 1 (Ty.UInt ∷ []) (Ty.Bool ∷ Ty.Bool ∷ []) (Form.number (fi
 abbrev geo_start : List Val
 geo_start = Num (ratio (pos 0) 1) ∷ Truth false ∷ Truth false ∷ []
 
--- Runs end at 7 and 11 with 0 and 1.
+-- Runs terminate after 7 and 11 steps with 0 and 1.
 geo_sums : (sum_after geo geo_start 7 ≡ Some (pos 0, 1)) × (sum_after geo geo_start 10 ≡ Some (pos 0, 1)) × (sum_after geo geo_start 11 ≡ Some (pos 1, 4))
 unfolding merged_onto joined scaled halfʳ ratio gcd gcd_steps zeroʳ oneʳ zeroᵛ oneᵛ ◌+ʳ◌ ◌*ʳ◌ ◌-ʳ◌ ◌+ᵛ◌ ◌*ᵛ◌ infinite_times is_zeroʳ leqʳ leqᵛ compareʳ exact_sum sum_fits exact_product product_fits exact_order order_fits
 geo_sums = (refl, refl, refl)
 
--- ---- Numbers that don't fit: the greatest number of 127 bits, plus 1
+-- ---- Numbers that overflow: the largest number of 127 bits, plus 1
 
 abbrev wide : Form
 wide = Form.sum (number 170141183460469231731687303715884105727) (number 1)
@@ -111,9 +112,9 @@ wide_step : StopsAt (unrolled_in wide_pays 0 [] []) (Some (whole 1)) 9 2 (unroll
 unfolding merged_onto joined scaled halfʳ ratio gcd gcd_steps zeroʳ oneʳ zeroᵛ oneᵛ ◌+ʳ◌ ◌*ʳ◌ ◌-ʳ◌ ◌+ᵛ◌ ◌*ᵛ◌ infinite_times is_zeroʳ leqʳ leqᵛ compareʳ exact_sum sum_fits exact_product product_fits exact_order order_fits
 wide_step = by_step (whole 1) (omega arith) (omega arith) refl refl refl (whole 1, (refl, record { holds = refl }))
 
--- ---- Each shortage, and runs that are not short
+-- ---- Each overflow, and runs without one
 
--- A post that does not fit stops the final adding.
+-- A post that overflows stops the adding of the sums.
 abbrev wide_post : List TypedProcedure
 wide_post = procedure 0 [] [] (number 1) wide [] ∷ []
 
@@ -121,12 +122,12 @@ wide_post_is_short : IsShort (unrolled_in wide_post 0 [] []) (Some (whole 1)) 0
 unfolding merged_onto joined scaled halfʳ ratio gcd gcd_steps zeroʳ oneʳ zeroᵛ oneᵛ ◌+ʳ◌ ◌*ʳ◌ ◌-ʳ◌ ◌+ᵛ◌ ◌*ᵛ◌ infinite_times is_zeroʳ leqʳ leqᵛ compareʳ exact_sum sum_fits exact_product product_fits exact_order order_fits
 wide_post_is_short = final_adding refl
 
--- A pre that does not fit is short after any number of steps.
+-- A pre that overflows does so after any number of steps.
 wide_pre_is_short : IsShort (unrolled_in pays 0 [] []) (exact_value wide []) 2
 unfolding ratio gcd gcd_steps exact_sum sum_fits
 wide_pre_is_short = no_pre refl
 
--- The reward 2^127 - 1 and the post 1 fit, and their sum does not.
+-- The reward 2^127 - 1 and the post 1 do not overflow, but their sum does.
 abbrev wide_sum : List TypedProcedure
 wide_sum = procedure 0 [] [] (number 1) (number 1) (Act.reward (number 170141183460469231731687303715884105727) place ∷ []) ∷ []
 
@@ -134,7 +135,7 @@ wide_sum_is_short : IsShort (unrolled_in wide_sum 0 [] []) (Some (whole 1)) 1
 unfolding merged_onto joined scaled halfʳ ratio gcd gcd_steps zeroʳ oneʳ zeroᵛ oneᵛ ◌+ʳ◌ ◌*ʳ◌ ◌-ʳ◌ ◌+ᵛ◌ ◌*ᵛ◌ infinite_times is_zeroʳ leqʳ leqᵛ compareʳ exact_sum sum_fits exact_product product_fits exact_order order_fits
 wide_sum_is_short = no_sum _ refl refl
 
--- The pre 2^126 and the post 1/4 fit, and the products by which they are compared do not.
+-- The pre 2^126 and the post 1/4 do not overflow, but the products by which they are compared do.
 abbrev far_pre : List TypedProcedure
 far_pre = procedure 0 [] [] (number 85070591730234615865843651857942052864) (Form.number (finite (ratio (pos 1) 4))) [] ∷ []
 
@@ -149,7 +150,7 @@ present (Some x) e n = cc
 of_some : {A : Type 0} (x y : A) → Some x ≡ Some y → x ≡ y
 of_some x y e = cc
 
--- After two payments, and with the pre 1, no number is missing.
+-- After two payments, and with the pre 1, no number overflows.
 payments_are_not_short : IsShort (unrolled_in pays 0 [] []) (Some (whole 1)) 2 → ⊥
 unfolding merged_onto joined scaled halfʳ ratio gcd gcd_steps zeroʳ oneʳ zeroᵛ oneᵛ ◌+ʳ◌ ◌*ʳ◌ ◌-ʳ◌ ◌+ᵛ◌ ◌*ᵛ◌ infinite_times is_zeroʳ leqʳ leqᵛ compareʳ exact_sum sum_fits exact_product product_fits exact_order order_fits
 payments_are_not_short (final_adding e) = cc
@@ -157,23 +158,23 @@ payments_are_not_short (no_pre e) = cc
 payments_are_not_short (no_sum t e n) = present (together (unrolled_in pays 0 [] [] 2)) refl (ap together e ∙ n)
 payments_are_not_short (no_order sum bound e p n) = present (exact_orderᵛ (whole 1) (whole 2)) refl (subst (λ v. exact_orderᵛ v (whole 2) ≡ None) (sym (of_some (whole 1) bound p)) (subst (λ v. exact_orderᵛ bound v ≡ None) (sym (of_some (whole 2) sum e)) n))
 
--- The search does not stop there, neither by the step nor by a number.
+-- The search does not stop there, neither by the step nor by an overflow.
 payments_do_not_stop : (answer : Unrolling) → StopsAt (unrolled_in pays 0 [] []) (Some (whole 1)) 9 2 answer → ⊥
 unfolding merged_onto joined scaled halfʳ ratio gcd gcd_steps zeroʳ oneʳ zeroᵛ oneᵛ ◌+ʳ◌ ◌*ʳ◌ ◌-ʳ◌ ◌+ᵛ◌ ◌*ᵛ◌ infinite_times is_zeroʳ leqʳ leqᵛ compareʳ exact_sum sum_fits exact_product product_fits exact_order order_fits
 payments_do_not_stop answer (by_step bound one few names same given before) = names
 payments_do_not_stop answer (by_number few short same before) = payments_are_not_short short
 
--- One payment does not pass the pre.
+-- One payment does not exceed the pre.
 first_does_not_pass : (sum bound : Value) → PassesAt (unrolled_in pays 0 [] []) (Some (whole 1)) 9 1 sum bound → ⊥
 unfolding merged_onto joined scaled halfʳ ratio gcd gcd_steps zeroʳ oneʳ zeroᵛ oneᵛ ◌+ʳ◌ ◌*ʳ◌ ◌-ʳ◌ ◌+ᵛ◌ ◌*ᵛ◌ infinite_times is_zeroʳ leqʳ leqᵛ compareʳ exact_sum sum_fits exact_product product_fits exact_order order_fits
 first_does_not_pass sum bound h = let e = subst (λ v. leqᵛ (whole 1) v ≡ false) (sym (of_some (whole 1) bound h.given)) (subst (λ v. leqᵛ v bound ≡ false) (sym (of_some (whole 1) sum h.summed)) h.above.holds) in cc
 
--- Two payments do not stay within it.
+-- Two payments are not within the pre.
 second_does_not_stay : (sum bound : Value) → StaysWithin (unrolled_in pays 0 [] []) (Some (whole 1)) 2 sum bound → ⊥
 unfolding merged_onto joined scaled halfʳ ratio gcd gcd_steps zeroʳ oneʳ zeroᵛ oneᵛ ◌+ʳ◌ ◌*ʳ◌ ◌-ʳ◌ ◌+ᵛ◌ ◌*ᵛ◌ infinite_times is_zeroʳ leqʳ leqᵛ compareʳ exact_sum sum_fits exact_product product_fits exact_order order_fits
 second_does_not_stay sum bound h = let e = subst (λ v. leqᵛ (whole 2) v ≡ true) (sym (of_some (whole 1) bound h.given)) (subst (λ v. leqᵛ v bound ≡ true) (sym (of_some (whole 2) sum h.summed)) h.within.holds) in cc
 
--- Two rewards of 1, and then a post that has no sum with them.
+-- Two rewards of 1, and then a post whose sum with them overflows.
 abbrev late_sum : List TypedProcedure
 late_sum = procedure 0 [] [] (number 1) (number 170141183460469231731687303715884105727) (Act.reward (number 1) place ∷ Act.reward (number 1) place ∷ Act.reward (number 1) place ∷ []) ∷ []
 

@@ -1,4 +1,4 @@
--- What the answers of a search say of the runs.
+-- The answers of a search are right for the runs.
 use Rattle.std.proofs.Common.{◌≡◌, ◌<◌, ◌≤◌, ℕ, refl, sym, subst, ◌∙◌, arith, true, List, ◌⊎◌, inl, inr}
 use Rattle.std.proofs.lemmas.Bool.{cases_lt}
 use Rattle.std.specs.Prelude.{IfSome, Option, Some, None}
@@ -34,7 +34,7 @@ use Rattle.run_unroller.specs.UnrollLaws.{UnrolledSumsAreMeant}
 use Rattle.run_unroller.specs.Unrolling.{Unrolling}
 use Rattle.run_unroller.specs.declared.answers.Unrolled.TheVariants as unrolled
 
--- A number that is given comes of sums.
+-- A number that unrolling returns is the sum of its reward and post.
 record ComesOf (u : Unrolling) (sum : Value) : Type 0 where
   totals : Totals
   is : u ≡ Unrolling.sums totals
@@ -58,7 +58,6 @@ module _ (sums : UnrolledSumsAreMeant) (grow : ScriptedSumsGrow) (values : Exact
   abbrev pre : Option Value
   pre = exact_value (procedure_at ps p).pre state
 
-  -- A sum that is given is the one of the runs, and so is the pre.
   sum_is : (s : ℕ) (sum : Value) → IsSum us s sum → sum ≡ scripted_sum ps p state script s
   sum_is s sum e =
       let h = comes_of (us s) sum e in
@@ -67,16 +66,13 @@ module _ (sums : UnrolledSumsAreMeant) (grow : ScriptedSumsGrow) (values : Exact
   pre_is : (bound : Value) → pre ≡ Some bound → bound ≡ pre_in ps p state
   pre_is bound e = subst (λ o. IfSome o (λ x. x ≡ pre_in ps p state)) e (values (procedure_at ps p).pre state)
 
-  -- So sums that are given do not fall.
   grows : (s m : ℕ) (v w : Value) → s ≤ m → IsSum us s v → IsSum us m w → v ≤ᵛ w
   grows s m v w l a b = subst (λ x. x ≤ᵛ w) (sym (sum_is s v a)) (subst (λ x. scripted_sum ps p state script s ≤ᵛ x) (sym (sum_is m w b)) (grow ps p rules state typed script s m l))
 
-  -- Where the sum after some steps isn't above the bound, none after fewer steps is.
   none_above : (s m : ℕ) (bound : Value) → s < m → IsWithinBefore us bound m → IsAbove us bound s → ⊥
   none_above s zero bound l before above = omega (arith, l)
   none_above s (suc m) bound l before above = <ᵛ-not bound above.0 above.1.1 (≤ᵛ_trans above.0 before.0 bound (grows s m above.0 before.0 (omega (arith, l)) above.1.0 before.1.0) before.1.1)
 
-  -- Where all numbers fit, an answer that may come is the one that is due.
   pub decided : (n : ℕ) (answer : Refuted) → MayCome us pre n answer → ((s : ℕ) → s ≤ n → IsShort us pre s → ⊥) → IsDecided us pre n answer
   decided n (Violation s sum bound) h fit = record { steps = s; few = h.steps; bound = value_of bound; given = h.given; above = (value_of sum, (h.summed, h.above)) }
   decided n (Within sum bound) h fit = (none, gives (us n) (value_of sum) h.summed)
@@ -101,11 +97,9 @@ module _ (sums : UnrolledSumsAreMeant) (grow : ScriptedSumsGrow) (values : Exact
           go (inl l) = none_above k.steps s bound l before above
           go (inr l) = no_sums k.steps l (gives (us k.steps) above.0 above.1.0)
 
-  -- The answers of a search.
   pub answers : (n : ℕ) (answer : Refuted) → MayCome us pre n answer → (pre ≡ None → answer ≡ Stopped 0 (unrolled.Bits 1)) → IsRefutedAnswer ps p state script n answer
   answers n answer h none = record { may = h; decided = decided n answer h; no_pre = none }
 
-  -- The runs of fewer steps stay within the pre.
   stay : (k m : ℕ) (bound : Value) → k < m → pre ≡ Some bound → IsWithinBefore us bound m → scripted_sum ps p state script k ≤ᵛ pre_in ps p state
   stay k zero bound l given before = absurd (omega (arith, l))
   stay k (suc m) bound l given before =

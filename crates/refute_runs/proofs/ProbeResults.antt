@@ -1,4 +1,4 @@
--- What probes see, and the answers that a search makes of it.
+-- Results of comparing one sum, and the answers of a search from them.
 use Rattle.std.proofs.Common.{◌≡◌, ◌<◌, ◌≤◌, ◌+◌, ◌-◌, ◌/◌, ℕ, refl, sym, ap, subst, ◌∙◌, arith, ◌⊎◌, inl, inr}
 use Rattle.std.proofs.lemmas.Bool.{cases_lt}
 use Rattle.std.specs.Prelude.{Some, min}
@@ -25,7 +25,6 @@ use Rattle.run_unroller.specs.declared.answers.Unrolled.TheVariants as unrolled
 
 -- ---- The sum after n steps
 
--- What the comparison of the bound with a sum says.
 pub above_less : (x y : Value) (o : Ordering) → Some o ≡ exact_orderᵛ x y → o ≡ Less → x <ᵛ y
 above_less x y o e f = record { holds = orderᵛ_less x y o e f }
 
@@ -35,20 +34,16 @@ within_equal x y o e f = subst (λ z. z ≤ᵛ x) (orderᵛ_equal x y o e f) (�
 pub within_greater : (x y : Value) (o : Ordering) → Some o ≡ exact_orderᵛ x y → o ≡ Greater → y ≤ᵛ x
 within_greater x y o e f = <ᵛ-≤ᵛ y x (record { holds = orderᵛ_greater x y o e f })
 
--- The sum that is given.
 pub sum_given : (us : Unrollings) (n : ℕ) (t : Totals) (v : Value) → us n ≡ Unrolling.sums t → Some v ≡ exact_sumᵛ t.reward t.post → IsSum us n v
 sum_given us n t v e h = ap together e ∙ sym h
 
--- A sum above the bound ends the search there.
 pub above_ends : (us : Unrollings) (pre sum : Ext) (n : ℕ) → IsSum us n (value_of sum) → value_of pre <ᵛ value_of sum → EndsAt us (value_of pre) n n (Violation n sum pre)
 above_ends us pre sum n summed above = record { few = omega arith; candidate = (refl, ((summed, above), refl)); empty = λ k l m. absurd (omega (arith, l, m)) }
 
--- After n steps a number is short.
 pub short_ends : (us : Unrollings) (bound : Value) (n : ℕ) (answer : Unrolled) → IsShort us (Some bound) n → unrolling_of answer ≡ unrolling_of (unrolled.Bits (n + 1)) → EndsAt us bound n n (Stopped n answer)
 short_ends us bound n answer short is = record { few = omega arith; candidate = (refl, IsBarred.by_number short is); empty = λ k l m. absurd (omega (arith, l, m)) }
 
 module _ (us : Unrollings) (named : IsNamed us) (bound : Value) where
-  -- A step that is stopped among n.
   step_ends : (n s : ℕ) (answer : Unrolled) → s ≤ n → NamesStep (unrolling_of answer) s → unrolling_of answer ≡ us n → EndsAt us bound n s (Stopped s answer)
   step_ends n s answer few names given =
       let at = named.first n s few (subst (λ u. NamesStep u s) given names) in
@@ -59,13 +54,11 @@ module _ (us : Unrollings) (named : IsNamed us) (bound : Value) where
         empty = λ k l m. ap together (named.stays s k l first) ∙ names_none (us s) s first;
       }
 
-  -- The final adding after n.
   adding_ends : (n s : ℕ) (answer : Unrolled) → n < s → NamesStep (unrolling_of answer) s → unrolling_of answer ≡ us n → EndsAt us bound n n (Stopped n answer)
   adding_ends n s answer more names given =
       let bits : us n ≡ unrolling_of (unrolled.Bits (n + 1)) = named.added n s more (subst (λ u. NamesStep u s) given names) in
       short_ends us bound n answer (final_adding bits) (given ∙ bits)
 
-  -- Either of them.
   pub stop_ends : (n s : ℕ) (answer : Unrolled) → NamesStep (unrolling_of answer) s → unrolling_of answer ≡ us n → EndsAt us bound n (min s n) (Stopped (min s n) answer)
   stop_ends n s answer names given = go (cases_lt n s)
     where
@@ -73,11 +66,9 @@ module _ (us : Unrollings) (named : IsNamed us) (bound : Value) where
       go (inl l) = subst (λ k. EndsAt us bound n k (Stopped k answer)) (let e : n ≡ min s n = omega (arith, l) in e) (adding_ends n s answer l names given)
       go (inr l) = subst (λ k. EndsAt us bound n k (Stopped k answer)) (let e : s ≡ min s n = omega (arith, l) in e) (step_ends n s answer l names given)
 
--- The middle, rounded down, is below the upper end.
 pub middle_within : (low high : ℕ) → low < high → (low ≤ low + (high - low) / 2) × (low + (high - low) / 2 < high)
 middle_within low high l = (omega (arith, l), omega (arith, l))
 
--- The answer at the end of a search.
 pub comes : (us : Unrollings) (bound : Value) (m n : ℕ) (answer : Refuted) → IsLeast us bound m answer → m ≤ n → MayCome us (Some bound) n answer
 comes us bound m n (Violation s sum b) h l =
     let is = h.candidate.0 in

@@ -1,4 +1,5 @@
--- A step that is stopped is named after every number of steps from its own on, and after none before.
+-- A stopped step is named by the results after every number of steps from its own on, and by none
+-- before.
 use Rattle.std.proofs.Common.{◌≡◌, ◌<◌, ◌≤◌, ◌+◌, ◌-◌, ℕ, refl, sym, ap, subst, ◌∙◌, arith, List}
 use Rattle.std.specs.Option.{option_or}
 use Rattle.std.specs.Prelude.{Option, Some, None}
@@ -27,14 +28,16 @@ step_of c n x e = ap (λ y. y.1) (some_is x (c, n) (sym e))
 no_step : {C : Type 0} (n : ℕ) (x : C × ℕ) → None ≡ Some x → x.1 ≡ n
 no_step n x e = absurd (cc)
 
--- How steps that are stopped are named: from such a step on the answer stays; a step up to n that is named after n steps is stopped after as many steps
--- as its number; and a step after n that is named is that of the adding.
+-- The names of stopped steps: from a stopped step on the result stays the same; a step up to n that
+-- is named after n steps is stopped after as many steps as its number; and a step after n that is
+-- named is that of adding the sums.
 pub record IsNamed (us : Unrollings) : Type 0 where
   pub stays : (s n : ℕ) → s ≤ n → NamesStep (us s) s → us n ≡ us s
   pub first : (n s : ℕ) → s ≤ n → NamesStep (us n) s → (1 ≤ s) × (us s ≡ us n)
   pub added : (n s : ℕ) → n < s → NamesStep (us n) s → us n ≡ unrolling_of (unrolled.Bits (n + 1))
 
--- Stops that are found one step after another: the first one stays, and a new one is that of its step.
+-- Stops that are found one step after another: the first one stays, and a new one is that of its
+-- step.
 module _ {C : Type 0} (f : ℕ → Option (C × ℕ)) (none : f 0 ≡ None) (on : (n : ℕ) (x : C × ℕ) → f n ≡ Some x → f (suc n) ≡ Some x) (new : (n : ℕ) (x : C × ℕ) → f n ≡ None → f (suc n) ≡ Some x → x.1 ≡ suc n) where
   stays : (x : C × ℕ) (m k : ℕ) → f m ≡ Some x → f (m + k) ≡ Some x
   stays x m zero h = ap f (let e : m + 0 ≡ m = omega arith in e) ∙ h
@@ -52,7 +55,7 @@ module _ {C : Type 0} (f : ℕ → Option (C × ℕ)) (none : f 0 ≡ None) (on 
           (ih.0, omega (arith, few), ih.2)
       go before None h = let step : x.1 ≡ suc n = new n x h e in (omega (arith, step), omega (arith, step), ap f step ∙ e)
 
-  -- What is given after so many steps: the first stop, or what names the step after the last, if any.
+  -- The result after n steps: the first stop, or possibly a stop at the step after the last.
   module _ (us : ℕ → Unrolling) (stop : C × ℕ → Unrolling) (given : (n : ℕ) (x : C × ℕ) → f n ≡ Some x → us n ≡ stop x) (at : (x : C × ℕ) (s : ℕ) → NamesStep (stop x) s → x.1 ≡ s) (free : (n s : ℕ) → f n ≡ None → NamesStep (us n) s → (s ≡ n + 1) × (us n ≡ unrolling_of (unrolled.Bits (n + 1)))) where
     stays_given : (s n : ℕ) → s ≤ n → NamesStep (us s) s → us n ≡ us s
     stays_given s n l names = go (f s) refl
@@ -85,7 +88,6 @@ module _ {C : Type 0} (f : ℕ → Option (C × ℕ)) (none : f 0 ≡ None) (on 
     is_named : IsNamed us
     is_named = record { stays = stays_given; first = first_given; added = added_given }
 
--- Where no step is stopped, the adding alone can be.
 adding : (n s : ℕ) (o : Option Totals) → NamesStep (sums_or (n + 1) o) s → (s ≡ n + 1) × (sums_or (n + 1) o ≡ unrolling_of (unrolled.Bits (n + 1)))
 adding n s (Some t) names = absurd names
 adding n s None names = (sym names, refl)
@@ -94,7 +96,6 @@ module _ (ps : List TypedProcedure) (p : ℕ) (first : Stored) (script : List De
   abbrev sums_of : ℕ → Unrolling
   sums_of n = sums_or (n + 1) (totals (procedure_at ps p) (after ps script n (begun first)))
 
-  -- What unrolling gives.
   pub steps_named : IsNamed (unrolled_from ps p first script)
   steps_named =
       is_named (λ n. first_stop ps script n (begun first)) refl
@@ -108,7 +109,6 @@ module _ (ps : List TypedProcedure) (p : ℕ) (first : Stored) (script : List De
       let h = adding n s (totals (procedure_at ps p) (after ps script n (begun first))) (subst (λ u. NamesStep u s) is names) in
       (h.0, is ∙ h.1))
 
--- What names a step has no sums.
 pub names_none : (u : Unrolling) (s : ℕ) → NamesStep u s → together u ≡ None
 names_none (Unrolling.sums t) s names = absurd names
 names_none (Unrolling.stopped cause step) s names = refl

@@ -1,4 +1,5 @@
-//! The search, which halves: sums do not fall as the steps grow, and a step that is stopped is so whatever comes after it.
+//! The search by bisection. It is right because sums do not decrease with the number of steps, and
+//! a stopped step stays stopped in longer runs.
 
 ghost use Rattle.std.specs.Prelude.{◌≤◌, IfOk, Some};
 ghost use Rattle.heyvl_acts.specs.PlainActs.{procedures_of};
@@ -17,7 +18,7 @@ use heyvl_num::Ext;
 use run_machine::{Config, Decide};
 use std::alloc::{AllocError, Global};
 
-/// The answer of a search up to n steps. All of them are tried first.
+/// Returns the answer of a search up to `n` steps. It compares the sum after `n` steps first.
 pub(crate) fn search(
     alloc: Global,
     typed: &Typed,
@@ -30,7 +31,9 @@ pub(crate) fn search(
     requires rules { MeetsAllRules typed.now }
     requires begins { Begins (procedures_of typed.now) p (stored start.now) }
     requires steps { n ≤ 10000 }
-    ensures { IfOk result (λ answer. MayCome (unrolled_from (procedures_of typed.now) p (stored start.now) script.now) (Some (value_of pre.now)) n answer) }
+    ensures { IfOk result (λ answer.
+        MayCome (unrolled_from (procedures_of typed.now) p (stored start.now) script.now)
+        (Some (value_of pre.now)) n answer) }
 {
     match look_at(alloc, typed, p, start, script, pre, n)? {
         Probe::Within(sum) => Ok(Refuted::Within(sum, *pre)),
@@ -38,7 +41,8 @@ pub(crate) fn search(
     }
 }
 
-/// The answer of a search below so many steps, for which this is the answer if nothing below them is.
+/// Returns the answer of a search below `steps`, where `found` is the answer if no smaller number
+/// of steps has one.
 fn below(
     alloc: Global,
     typed: &Typed,
@@ -52,8 +56,12 @@ fn below(
     requires rules { MeetsAllRules typed.now }
     requires begins { Begins (procedures_of typed.now) p (stored start.now) }
     requires steps { steps ≤ 10000 }
-    requires candidate { IsCandidate (unrolled_from (procedures_of typed.now) p (stored start.now) script.now) (value_of pre.now) steps found }
-    ensures { IfOk result (λ answer. IsLeast (unrolled_from (procedures_of typed.now) p (stored start.now) script.now) (value_of pre.now) steps answer) }
+    requires candidate { IsCandidate
+        (unrolled_from (procedures_of typed.now) p (stored start.now) script.now)
+        (value_of pre.now) steps found }
+    ensures { IfOk result (λ answer.
+        IsLeast (unrolled_from (procedures_of typed.now) p (stored start.now) script.now)
+        (value_of pre.now) steps answer) }
 {
     let mut low = 0;
     let mut high = steps;

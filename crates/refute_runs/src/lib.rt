@@ -1,4 +1,7 @@
-//! The search for the least number of steps at which the runs of a script pass the pre of a coproc.
+//! The search for the least number of steps after which the runs of a script exceed the pre of a
+//! coproc.
+//!
+//! `AllocError` means that memory ran out.
 #![tactic(auto)]
 
 mod answers;

@@ -1,4 +1,4 @@
-//! The sum after one number of steps, held against the pre.
+//! The comparison of the sum after one number of steps with the pre.
 
 ghost use Rattle.std.specs.Prelude.{◌≡◌, ◌≤◌, IfOk, min};
 ghost use Rattle.heyvl_acts.specs.PlainActs.{procedures_of};
@@ -17,16 +17,17 @@ use run_unroller::{Sums, Unrolled, unroll};
 use std::alloc::{AllocError, Global};
 use std::cmp::Ordering;
 
-/// What is seen of the sum after a number of steps.
+/// The result of comparing the sum after one number of steps.
 #[derive(Drop)]
 pub(crate) enum Probe {
-    /// The sum, which isn't above the pre.
+    /// The sum, which is not above the pre.
     Within(Ext),
-    /// The sum after so many steps, or a step of this number, which ends the search above, with the answer if nothing below does.
+    /// The number of steps below which the search continues, and the answer if no smaller number
+    /// has one: the sum is above the pre, or a step is stopped.
     Until(u32, Refuted),
 }
 
-/// Unrolls so many steps and holds the sum against the pre.
+/// Unrolls `n` steps and compares the sum with the pre.
 pub(crate) fn look_at(
     alloc: Global,
     typed: &Typed,
@@ -39,7 +40,9 @@ pub(crate) fn look_at(
     requires rules { MeetsAllRules typed.now }
     requires begins { Begins (procedures_of typed.now) p (stored start.now) }
     requires steps { n ≤ 10000 }
-    ensures { IfOk result (λ seen. IsSeen (unrolled_from (procedures_of typed.now) p (stored start.now) script.now) (value_of pre.now) n seen) }
+    ensures { IfOk result (λ seen.
+        IsSeen (unrolled_from (procedures_of typed.now) p (stored start.now) script.now)
+        (value_of pre.now) n seen) }
 {
     match unroll(alloc, typed, p, start, script, n)? {
         Unrolled::Sums(sums) => Ok(beside(&sums, pre, n)),
@@ -49,7 +52,8 @@ pub(crate) fn look_at(
     }
 }
 
-/// The answer where this step is stopped, or the final adding after n steps, which counts as one step more.
+/// Returns the result if this step is stopped, or the adding after `n` steps, which counts as the
+/// next step.
 fn stopped(step: u32, n: u32, answer: Unrolled) -> Probe
     ensures { result ≡ Probe.Until (min step n) (Refuted.Stopped (min step n) answer) }
 {
@@ -60,17 +64,19 @@ fn stopped(step: u32, n: u32, answer: Unrolled) -> Probe
     }
 }
 
-/// The search goes on below so many steps, with this answer if nothing there is one.
+/// Returns the result that the search continues below `steps`, with a stop as the answer if no
+/// smaller number has one.
 fn until(steps: u32, answer: Unrolled) -> Probe
     ensures { result ≡ Probe.Until steps (Refuted.Stopped steps answer) }
 {
     Probe::Until(steps, Refuted::Stopped(steps, answer))
 }
 
-/// The sum after n steps, held against the pre.
+/// Returns the result of comparing the sum after `n` steps with the pre.
 fn beside(sums: &Sums, pre: &Ext, n: u32) -> Probe
     requires { n ≤ 10000 }
-    ensures { (us : Unrollings) → us n ≡ Unrolling.sums (totals_of sums.now) → IsSeen us (value_of pre.now) n result }
+    ensures { (us : Unrollings) → us n ≡ Unrolling.sums (totals_of sums.now)
+        → IsSeen us (value_of pre.now) n result }
 {
     let Some(sum) = sums.reward.add(&sums.post) else {
         return until(n, Unrolled::Bits(n + 1));

@@ -24,11 +24,15 @@ use run_machine::{Decide, begin};
 use run_unroller::{Unrolled, scripted_sums_grow, unrolled_sums_are_meant};
 use std::alloc::{AllocError, Global};
 
-/// The least number of steps, up to n, after which the sum over the runs of a coproc, from a state and under a script, is above its pre in this
-/// state. Violation comes where there is one, and then no bound holds of the procedure, neither in this file nor in one that differs from it in
-/// the rules of loops alone; Within where the sum after n steps isn't above the pre; Stopped where a step is stopped before that is known,
-/// as `unroll` says, or where a number doesn't fit: one of the final adding after so many steps, the pre, the reward and the post together, or one
-/// that their comparison with the pre needs. Of a pre with a binder, or one that doesn't fit, it comes at once.
+/// Searches for the least number of steps, at most `n`, after which the sum over the runs of a
+/// coproc, from a state and under a script, is above its pre in this state. Returns
+///
+/// - `Violation` if there is one. Then the procedure has no bound, neither in this file nor in one
+///   that differs only in the rules of loops;
+/// - `Within` if the sum after `n` steps is not above the pre;
+/// - `Stopped` if a step is stopped before this is known, as `unroll` reports, or if a number
+///   overflows: in adding the sums, in the pre, in the sum of the reward and the post, or in its
+///   comparison with the pre. A pre with a binder, or one that overflows, is answered so at once.
 pub fn refute(
     alloc: Global,
     typed: &Typed,
@@ -42,9 +46,12 @@ pub fn refute(
     requires coproc { (procedure_at (procedures_of typed.now) p).co ≡ true }
     requires state { IsState (procedure_at (procedures_of typed.now) p) state.now }
     requires steps { n ≤ 10000 }
-    ensures answer { IfOk result (λ answer. IsRefutedAnswer (procedures_of typed.now) p state.now script.now n answer) }
-    ensures violation { IfOk result (λ answer. ViolationIsOfRuns (procedures_of typed.now) p state.now script.now answer) }
-    ensures numbers { IfOk result (λ answer. NumbersAreOfRuns (procedures_of typed.now) p state.now script.now n answer) }
+    ensures answer { IfOk result
+        (λ answer. IsRefutedAnswer (procedures_of typed.now) p state.now script.now n answer) }
+    ensures violation { IfOk result
+        (λ answer. ViolationIsOfRuns (procedures_of typed.now) p state.now script.now answer) }
+    ensures numbers { IfOk result
+        (λ answer. NumbersAreOfRuns (procedures_of typed.now) p state.now script.now n answer) }
 {
     exact_values_are_meant();
     scripted_sums_grow();
@@ -53,7 +60,7 @@ pub fn refute(
     answer(alloc, typed, p, state, script, n)
 }
 
-/// An answer that may come.
+/// Returns an allowed answer.
 fn answer(
     alloc: Global,
     typed: &Typed,
@@ -66,7 +73,9 @@ fn answer(
     requires programs { ReachesPrograms (procedures_of typed.now) p }
     requires state { IsState (procedure_at (procedures_of typed.now) p) state.now }
     requires steps { n ≤ 10000 }
-    ensures { IfOk result (λ answer. IsPossible (unrolled_in (procedures_of typed.now) p state.now script.now) (exact_value (procedure_at (procedures_of typed.now) p).pre state.now) n answer) }
+    ensures { IfOk result (λ answer.
+        IsPossible (unrolled_in (procedures_of typed.now) p state.now script.now)
+        (exact_value (procedure_at (procedures_of typed.now) p).pre state.now) n answer) }
 {
     let Some(pre) = pre_at(typed, p, state) else {
         return Ok(Refuted::Stopped(0, Unrolled::Bits(1)));
@@ -75,9 +84,10 @@ fn answer(
     search(alloc, typed, p, &start, script, &pre, n)
 }
 
-/// The procedure's pre in a state; 0 where it isn't there.
+/// Returns the value of the procedure's pre in a state, or 0 if there is no procedure.
 fn pre_at(typed: &Typed, p: u32, state: &[Val]) -> Option<Ext>
-    ensures { option_map value_of result ≡ exact_value (procedure_at (procedures_of typed.now) p).pre state.now }
+    ensures { option_map value_of result
+        ≡ exact_value (procedure_at (procedures_of typed.now) p).pre state.now }
 {
     match typed.procs.get(p as usize) {
         None => Some(Ext::zero()),

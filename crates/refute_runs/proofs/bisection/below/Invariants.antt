@@ -6,7 +6,8 @@ use Rattle.refute_runs.specs.internal.Probes.{IsCandidate}
 use Rattle.refute_runs.proofs.bisection.below.Given as goal
 use Rattle.run_machine.specs.Names.{stored}
 
--- Below `low` no sum is above the pre, and at `high` the answer found is right if none below is.
+-- Below `low` no sum is above the pre, and `found` is the right answer at `high` if there is none
+-- below.
 abbrev pub invariant-loop-low : goal.invariant-loop-low
 invariant-loop-low l = record {
   order : l.low ≤ l.high;
