@@ -1,6 +1,7 @@
-//! Numbers at the front of a text, and the line there that splits a whole variable, read in one pass.
+//! Numbers at the start of a text, and the line of an integer split there, read in one pass.
 
-ghost use Rattle.std.specs.Prelude.{◌≡◌, ◌<◌, ◌^◌, ◌+◌, ◌-◌, ◌*◌, ◌++◌, ◌∷◌, decimal, FitsSigned, IfSome};
+ghost use Rattle.std.specs.Prelude.{◌≡◌, ◌<◌, ◌^◌, ◌+◌, ◌-◌, ◌*◌, ◌++◌, ◌∷◌, decimal, FitsSigned};
+ghost use Rattle.std.specs.Prelude.{IfSome};
 ghost use Rattle.std.specs.Fmt.{signed_decimal};
 ghost use Rattle.std.specs.Int.{IsInRange, w64};
 ghost use Rattle.cert_text.specs.Certificates.{IsWholeSplit};
@@ -8,7 +9,7 @@ ghost use Rattle.cert_text.specs.Lines.{line_text, whole};
 
 use crate::numbers::negative;
 
-/// The number with one more digit behind it.
+/// Returns the number with one more digit, or `None` if it does not fit into 64 bits.
 fn with_digit(number: u64, digit: u8) -> Option<u64>
     requires { IsInRange 48 57 digit }
     ensures { IfSome result (λ n. (n ≡ number * 10 + (digit - 48)) × (n < 2 ^ 64)) }
@@ -16,7 +17,8 @@ fn with_digit(number: u64, digit: u8) -> Option<u64>
     number.checked_mul(10)?.checked_add(u64::from(digit - b'0'))
 }
 
-/// The number with all digits that stand in front of the text behind it, and what stands behind them.
+/// Reads the digits at the start of `text` after the digit `first`. Returns the number that they
+/// write together, and the rest of the text.
 fn with_digits(first: u64, text: &[u8]) -> Option<(u64, &[u8])>
     requires { 0 < first }
     ensures { IfSome result (λ r. decimal first ++ text.now ≡ decimal r.0 ++ r.1.now) }
@@ -33,7 +35,7 @@ fn with_digits(first: u64, text: &[u8]) -> Option<(u64, &[u8])>
     Some((number, rest))
 }
 
-/// The number whose digits stand in front, and what stands behind them.
+/// Splits a text into its leading number and the rest.
 fn front_number(text: &[u8]) -> Option<(u64, &[u8])>
     ensures { IfSome result (λ r. text.now ≡ decimal r.0 ++ r.1.now) }
 {
@@ -47,7 +49,7 @@ fn front_number(text: &[u8]) -> Option<(u64, &[u8])>
     }
 }
 
-/// The whole number that stands in front, and what stands behind it.
+/// Splits a text into its leading integer and the rest.
 fn front_signed(text: &[u8]) -> Option<(i64, &[u8])>
     ensures text { IfSome result (λ r. text.now ≡ signed_decimal r.0 ++ r.1.now) }
     ensures fits { IfSome result (λ r. FitsSigned w64 r.0) }
@@ -61,7 +63,8 @@ fn front_signed(text: &[u8]) -> Option<(i64, &[u8])>
     }
 }
 
-/// The variable and the number of the line that stands in front, where it splits a whole variable, and what stands behind it.
+/// Splits a text into its first line and the rest, if this line is an integer split. Returns the
+/// split variable, the number of the split, and the rest.
 pub fn front_split(text: &[u8]) -> Option<(u32, i64, &[u8])>
     ensures valid { IfSome result (λ r. IsWholeSplit r.0 r.1) }
     ensures text { IfSome result (λ r. text.now ≡ line_text (whole r.0 r.1) ++ 10 ∷ r.2.now) }

@@ -1,25 +1,25 @@
-//! Which goal of a file, and the order of goals.
+//! Names of the goals of a file, and their order.
 
 ghost use Rattle.std.specs.Prelude.{◌≡◌};
 ghost use Rattle.cert_text.specs.Certificates.{may_follow, precedes};
 
 use heylo_formula::GoalId;
 
-/// Which goal of a file: the procedure's number, from 0, and which of its goals.
+/// A goal of a file: the number of its procedure, from 0, and the goal's name in the procedure.
 #[derive(Clone, Copy)]
 pub struct GoalName {
     pub proc: u32,
     pub id: GoalId,
 }
 
-/// Whether the first goal of a file comes before the second.
+/// Returns whether the goal `first` precedes the goal `second`.
 fn precedes(first: GoalName, second: GoalName) -> bool
     ensures { result ≡ precedes first second }
 {
     first.proc < second.proc || (first.proc == second.proc && first.id.stands_before(second.id))
 }
 
-/// Whether the goal may come after the latest one, if there is one.
+/// Returns whether the goal `name` may follow the goal `latest`. Any goal may be the first.
 pub fn may_follow(latest: Option<GoalName>, name: GoalName) -> bool
     ensures { result ≡ may_follow latest name }
 {

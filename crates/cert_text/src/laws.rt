@@ -7,7 +7,7 @@ pub fn texts_are_unique()
     ensures { TextsAreUnique }
 {}
 
-/// Bytes have one first fault at most.
+/// Bytes have one first invalid line at most.
 pub fn faults_are_unique()
     ensures { FaultsAreUnique }
 {}

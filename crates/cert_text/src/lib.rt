@@ -1,4 +1,6 @@
 //! The text of certificates.
+//!
+//! `AllocError` means that memory ran out.
 #![tactic(auto)]
 
 mod fronts;

@@ -1,13 +1,15 @@
 //! The lines of a text of certificates.
 
-ghost use Rattle.std.specs.Prelude.{◌≡◌, ℕ, ℤ, ◌<◌, ◌≤◌, ◌^◌, ◌++◌, ◌∷◌, List, decimal, IfOk, IfSome, IsSomeAnd, Some, length};
+ghost use Rattle.std.specs.Prelude.{◌≡◌, ℕ, ℤ, ◌<◌, ◌≤◌, ◌^◌, ◌++◌, ◌∷◌, List, decimal, IfOk};
+ghost use Rattle.std.specs.Prelude.{IfSome, IsSomeAnd, Some, length};
 ghost use Rattle.std.specs.Fmt.{signed_decimal};
 ghost use Rattle.std.specs.Option.{option_map};
 ghost use Rattle.heylo_formula.specs.declared.goals.GoalId.{GoalId as GoalIdValue};
 ghost use Rattle.cert_text.specs.declared.goal_names.GoalName.{GoalName as GoalNameValue};
 ghost use Rattle.heylo_formula.specs.GoalOrder.{loop_of};
 ghost use Rattle.cert_text.specs.Certificates.{IsNumbered, IsWholeSplit, AreMultipliers};
-ghost use Rattle.cert_text.specs.Lines.{Line as LineValue, id_text, line_text, multiplier_text, multipliers_text};
+ghost use Rattle.cert_text.specs.Lines.{Line as LineValue, id_text, line_text, multiplier_text};
+ghost use Rattle.cert_text.specs.Lines.{multipliers_text};
 ghost use Rattle.cert_text.specs.internal.WholeLines.{IsLine};
 ghost use Rattle.cert_text.specs.internal.ReadStates.{line_of, IsMultiplier, IsBareLine};
 
@@ -30,10 +32,11 @@ pub enum Line {
     Last,
 }
 
-/// The goal of a procedure that has this text.
+/// Returns the goal of a procedure that has this text.
 fn goal_id(text: &[u8]) -> Option<GoalId>
     ensures found { IfSome result (λ id. (loop_of id < 2 ^ 32) × (text.now ≡ id_text id)) }
-    ensures only { (id : GoalIdValue) → loop_of id < 2 ^ 32 → text.now ≡ id_text id → result ≡ Some id }
+    ensures only { (id : GoalIdValue) → loop_of id < 2 ^ 32 → text.now ≡ id_text id
+        → result ≡ Some id }
 {
     if text == b"main".as_slice() {
         Some(GoalId::Main)
@@ -50,10 +53,12 @@ fn goal_id(text: &[u8]) -> Option<GoalId>
     }
 }
 
-/// The goal of a file that has this text.
+/// Returns the goal of a file that has this text.
 fn goal_name(text: &[u8]) -> Option<GoalName>
-    ensures found { IfSome result (λ n. IsNumbered n × (text.now ≡ decimal n.proc ++ 32 ∷ id_text n.id)) }
-    ensures only { (n : GoalNameValue) → IsNumbered n → text.now ≡ decimal n.proc ++ 32 ∷ id_text n.id → result ≡ Some n }
+    ensures found { IfSome result (λ n. IsNumbered n
+        × (text.now ≡ decimal n.proc ++ 32 ∷ id_text n.id)) }
+    ensures only { (n : GoalNameValue) → IsNumbered n
+        → text.now ≡ decimal n.proc ++ 32 ∷ id_text n.id → result ≡ Some n }
 {
     let (digits, rest) = cut(text, b' ');
     let (_, id) = rest.split_first()?;
@@ -63,10 +68,12 @@ fn goal_name(text: &[u8]) -> Option<GoalName>
     })
 }
 
-/// The variable and the number at which it is split that have this text.
+/// Returns the integer split that has this text: its variable, and its number.
 fn whole_split(text: &[u8]) -> Option<(u32, i64)>
-    ensures found { IfSome result (λ s. IsWholeSplit s.0 s.1 × (text.now ≡ decimal s.0 ++ 32 ∷ signed_decimal s.1)) }
-    ensures only { (x : ℕ) (m : ℤ) → IsWholeSplit x m → text.now ≡ decimal x ++ 32 ∷ signed_decimal m → result ≡ Some (x, m) }
+    ensures found { IfSome result (λ s. IsWholeSplit s.0 s.1
+        × (text.now ≡ decimal s.0 ++ 32 ∷ signed_decimal s.1)) }
+    ensures only { (x : ℕ) (m : ℤ) → IsWholeSplit x m
+        → text.now ≡ decimal x ++ 32 ∷ signed_decimal m → result ≡ Some (x, m) }
 {
     let (variable, rest) = cut(text, b' ');
     let (_, digits) = rest.split_first()?;
@@ -79,10 +86,12 @@ fn whole_split(text: &[u8]) -> Option<(u32, i64)>
     }
 }
 
-/// A row index and the multiplier behind it.
+/// Returns the row index and the multiplier that have this text.
 fn multiplier(text: &[u8]) -> Option<(u32, u64)>
-    ensures found { IfSome result (λ m. IsMultiplier m × (text.now ≡ decimal m.0 ++ 58 ∷ decimal m.1)) }
-    ensures only { (m : ℕ × ℕ) → IsMultiplier m → text.now ≡ decimal m.0 ++ 58 ∷ decimal m.1 → result ≡ Some m }
+    ensures found { IfSome result (λ m. IsMultiplier m
+        × (text.now ≡ decimal m.0 ++ 58 ∷ decimal m.1)) }
+    ensures only { (m : ℕ × ℕ) → IsMultiplier m → text.now ≡ decimal m.0 ++ 58 ∷ decimal m.1
+        → result ≡ Some m }
 {
     let (index, rest) = cut(text, b':');
     let (_, digits) = rest.split_first()?;
@@ -95,10 +104,13 @@ fn multiplier(text: &[u8]) -> Option<(u32, u64)>
     }
 }
 
-/// The first multiplier with a space before it, where its row index is at least this one, and what stands behind it.
+/// Splits a text into its first multiplier, with a space before it, and the rest. Returns `None` if
+/// the row index is less than `least`.
 fn first_multiplier(text: &[u8], least: u64) -> Option<((u32, u64), &[u8])>
-    ensures found { IfSome result (λ r. IsMultiplier r.0 × (least ≤ r.0.0) × (text.now ≡ multiplier_text r.0 ++ r.1.now)) }
-    ensures only { (m : ℕ × ℕ) (ms : List (ℕ × ℕ)) → IsMultiplier m → least ≤ m.0 → text.now ≡ multipliers_text (m ∷ ms)
+    ensures found { IfSome result (λ r. IsMultiplier r.0 × (least ≤ r.0.0)
+        × (text.now ≡ multiplier_text r.0 ++ r.1.now)) }
+    ensures only { (m : ℕ × ℕ) (ms : List (ℕ × ℕ)) → IsMultiplier m → least ≤ m.0
+        → text.now ≡ multipliers_text (m ∷ ms)
         → IsSomeAnd result (λ r. (r.0 ≡ m) × (r.1.now ≡ multipliers_text ms)) }
     ensures shorter { IfSome result (λ r. length r.1.now < length text.now) }
 {
@@ -112,10 +124,13 @@ fn first_multiplier(text: &[u8], least: u64) -> Option<((u32, u64), &[u8])>
     }
 }
 
-/// The multipliers that have this text, where there is one at least.
+/// Returns the multipliers that have this text, one or more.
 fn multipliers(alloc: Global, text: &[u8]) -> Result<Option<Vec<(u32, u64)>>, AllocError>
-    ensures found { IfOk result (λ found. IfSome found (λ ms. AreMultipliers ms.items × (text.now ≡ multipliers_text ms.items))) }
-    ensures only { IfOk result (λ found. (ms : List (ℕ × ℕ)) → AreMultipliers ms → text.now ≡ multipliers_text ms
+    ensures found { IfOk result
+        (λ found. IfSome found (λ ms. AreMultipliers ms.items
+        × (text.now ≡ multipliers_text ms.items))) }
+    ensures only { IfOk result (λ found. (ms : List (ℕ × ℕ)) → AreMultipliers ms
+        → text.now ≡ multipliers_text ms
         → IsSomeAnd found (λ v. v.items ≡ ms)) }
 {
     let mut found = Vec::new(alloc);
@@ -132,10 +147,12 @@ fn multipliers(alloc: Global, text: &[u8]) -> Result<Option<Vec<(u32, u64)>>, Al
     Ok(if found.is_empty() { None } else { Some(found) })
 }
 
-/// The line without numbers that has this text.
+/// Returns the line without numbers that has this text.
 fn bare_line(text: &[u8]) -> Option<Line>
-    ensures found { IfSome result (λ l. IsBareLine (line_of l) × (text.now ≡ line_text (line_of l))) }
-    ensures only { (l : LineValue) → IsBareLine l → text.now ≡ line_text l → option_map line_of result ≡ Some l }
+    ensures found { IfSome result (λ l. IsBareLine (line_of l)
+        × (text.now ≡ line_text (line_of l))) }
+    ensures only { (l : LineValue) → IsBareLine l → text.now ≡ line_text l
+        → option_map line_of result ≡ Some l }
 {
     if text == b"s".as_slice() {
         Some(Line::Split)
@@ -152,10 +169,12 @@ fn bare_line(text: &[u8]) -> Option<Line>
     }
 }
 
-/// The line that has this text.
+/// Returns the line that has this text.
 pub fn read_line(alloc: Global, text: &[u8]) -> Result<Option<Line>, AllocError>
-    ensures found { IfOk result (λ found. IfSome found (λ l. IsLine (line_of l) × (text.now ≡ line_text (line_of l)))) }
-    ensures only { IfOk result (λ found. (l : LineValue) → IsLine l → text.now ≡ line_text l → option_map line_of found ≡ Some l) }
+    ensures found { IfOk result
+        (λ found. IfSome found (λ l. IsLine (line_of l) × (text.now ≡ line_text (line_of l)))) }
+    ensures only { IfOk result (λ found. (l : LineValue) → IsLine l → text.now ≡ line_text l
+        → option_map line_of found ≡ Some l) }
 {
     if let Some(line) = bare_line(text) {
         Ok(Some(line))

@@ -1,4 +1,4 @@
-//! Nodes with two trees.
+//! Nodes with two subtrees.
 
 ghost use Rattle.std.specs.Prelude.{◌≡◌};
 ghost use Rattle.goal_answers.specs.Trees.{tree_of};
@@ -6,25 +6,25 @@ ghost use Rattle.cert_text.specs.internal.ReadStates.{joined};
 
 use goal_answers::Tree;
 
-/// A node with two trees.
+/// A node with two subtrees.
 #[derive(Clone, Copy)]
 pub enum Node {
-    /// A question.
+    /// A comparison: its subtrees are for the answers yes and no.
     Question,
-    /// A whole variable is at most this number, or at least the next one.
+    /// An integer split: the variable is at most this number, or at least the next one.
     Whole(u32, i64),
 }
 
-/// A node on the way to the open place of a tree.
+/// A node on the path from the root to the open place of a tree.
 #[derive(Drop)]
 pub enum Way {
-    /// The place stands in its first tree.
+    /// The open place is in the first subtree.
     First(Node),
-    /// It stands in its second tree, behind this first one.
+    /// The open place is in the second subtree; the first one is complete.
     Second(Node, Box<Tree>),
 }
 
-/// The node with its two trees.
+/// Returns the node with its two subtrees.
 pub fn joined(node: Node, first: Box<Tree>, second: Box<Tree>) -> Tree
     ensures { tree_of result ≡ joined node (tree_of first.value) (tree_of second.value) }
 {

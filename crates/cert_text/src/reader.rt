@@ -1,6 +1,7 @@
-//! Reading certificates.
+//! The reader of certificates.
 
-ghost use Rattle.std.specs.Prelude.{◌≡◌, ◌<◌, ◌^◌, ℕ, List, IfErr, IfOk, MatchOption, MatchResult, length};
+ghost use Rattle.std.specs.Prelude.{◌≡◌, ◌<◌, ◌^◌, ℕ, List, IfErr, IfOk, MatchOption, MatchResult};
+ghost use Rattle.std.specs.Prelude.{length};
 ghost use Rattle.cert_text.specs.Certificates.{Certificate, certificates_of};
 ghost use Rattle.cert_text.specs.Texts.{IsFirstFault, Spells};
 ghost use Rattle.cert_text.specs.Stops.{IsMemory, IsCertStop, IsFaultOrMemory};
@@ -16,8 +17,13 @@ use crate::words::cut;
 use goal_answers::GoalCert;
 use std::alloc::{AllocError, Global};
 
-/// The list of certificates that has this text, of either version: its goals grow strictly, and its trees are at most 1,000 deep.
-/// Fails with the first line that isn't allowed where no list has this text, and otherwise for want of memory alone.
+/// Returns the list of certificates that `bytes` spell, in either version. The goals of such a list
+/// are in strictly growing order, and its trees are at most 1,000 deep.
+///
+/// # Errors
+///
+/// - `Fault`: no list has this text. The number is that of the first invalid line.
+/// - `Memory`: memory ran out.
 pub fn read_cert(alloc: Global, bytes: &[u8]) -> Result<Vec<GoalCert>, CertStop>
     requires { length bytes.now < 2 ^ 31 }
     ensures found { IfOk result (λ certs. Spells (certificates_of certs.items) bytes.now) }
@@ -39,13 +45,15 @@ pub fn read_cert(alloc: Global, bytes: &[u8]) -> Result<Vec<GoalCert>, CertStop>
     }
 }
 
-/// Reads the first line. Gives what stands behind it, or nothing where no line is closed or the first one isn't allowed.
+/// Reads the first line of `rest`. Returns the text after it, or `None` if no line feed ends it or
+/// it is not allowed here. Lines of the kinds `s`, `t` and `i` are tried first.
 fn first_line<'a>(
     alloc: Global,
     reading: &mut Reading,
     rest: &'a [u8],
 ) -> Result<Option<&'a [u8]>, AllocError>
-    ensures { IfOk result (λ found. MatchOption found (IsStuck (state_of reading.old) (state_of reading.new) rest.now)
+    ensures { IfOk result (λ found.
+        MatchOption found (IsStuck (state_of reading.old) (state_of reading.new) rest.now)
         (λ behind. IsStep (state_of reading.old) (state_of reading.new) rest.now behind.now)) }
 {
     if let Some(behind) = rest.strip_prefix(b"s\n".as_slice()) {
@@ -71,13 +79,15 @@ fn first_line<'a>(
     }
 }
 
-/// The same of any line.
+/// Reads the first line of `rest`, of any kind. Returns the text after it, or `None` if no line
+/// feed ends it or it is not allowed here.
 fn longer_line<'a>(
     alloc: Global,
     reading: &mut Reading,
     rest: &'a [u8],
 ) -> Result<Option<&'a [u8]>, AllocError>
-    ensures { IfOk result (λ found. MatchOption found (IsStuck (state_of reading.old) (state_of reading.new) rest.now)
+    ensures { IfOk result (λ found.
+        MatchOption found (IsStuck (state_of reading.old) (state_of reading.new) rest.now)
         (λ behind. IsStep (state_of reading.old) (state_of reading.new) rest.now behind.now)) }
 {
     let (line, behind) = cut(rest, b'\n');
@@ -94,7 +104,7 @@ fn longer_line<'a>(
     }
 }
 
-/// The certificates read, where everything was read and nothing is left.
+/// Returns the certificates, if the end has been read and nothing follows it.
 fn whole(reading: Reading, rest: &[u8], number: u32) -> Result<Vec<GoalCert>, CertStop>
     ensures { IsWhole (state_of reading) rest.now number result }
 {

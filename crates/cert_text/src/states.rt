@@ -1,10 +1,15 @@
-//! What has been read of a text of certificates.
+//! The state of reading a text of certificates.
 
 ghost use Rattle.std.specs.Prelude.{◌≡◌, IfOk};
 ghost use Rattle.goal_answers.specs.Trees.{tree_of};
 ghost use Rattle.cert_text.specs.Certificates.{certificates_of};
-ghost use Rattle.cert_text.specs.Lines.{farkas as farkas_line, goal as goal_line, last as last_line, plain as plain_line, split as split_line, title as title_line, whole as whole_line};
-ghost use Rattle.cert_text.specs.internal.ReadStates.{after, edition_of, fill, filled_of, filled_state, line_of, may_end, may_split, next, open_of, start, state_of};
+ghost use Rattle.cert_text.specs.Lines.{farkas as farkas_line, goal as goal_line};
+ghost use Rattle.cert_text.specs.Lines.{last as last_line, plain as plain_line};
+ghost use Rattle.cert_text.specs.Lines.{split as split_line, title as title_line};
+ghost use Rattle.cert_text.specs.Lines.{whole as whole_line};
+ghost use Rattle.cert_text.specs.internal.ReadStates.{after, edition_of, fill, filled_of};
+ghost use Rattle.cert_text.specs.internal.ReadStates.{filled_state, line_of, may_end, may_split};
+ghost use Rattle.cert_text.specs.internal.ReadStates.{next, open_of, start, state_of};
 
 use crate::goal_names::{GoalName, may_follow};
 use crate::lines::Line;
@@ -13,41 +18,41 @@ use crate::versions::Version;
 use goal_answers::{GoalCert, Tree};
 use std::alloc::{AllocError, Global};
 
-/// What may come next.
+/// What may follow.
 #[derive(Clone, Copy)]
 pub enum Place {
     /// The title.
     Start,
-    /// A goal behind the latest one, or the end.
+    /// A goal that follows the latest one, or the end.
     Between(Option<GoalName>),
-    /// A part of this goal's tree.
+    /// A node of the tree of this goal.
     Inside(GoalName),
     /// Nothing.
     Done,
 }
 
-/// The version of the text, and what its end asks for.
+/// The version of a text, with what its end requires.
 #[derive(Clone, Copy)]
 pub enum Edition {
-    /// Version 1, in which no whole variable is split.
+    /// Version 1, which has no integer split.
     One,
-    /// Version 2 in which none was split so far: its end isn't allowed.
+    /// Version 2 before the first integer split. The end is not allowed yet.
     Lacking,
-    /// Version 2 in which one was.
+    /// Version 2 after an integer split.
     Two,
 }
 
-/// The certificates read so far, and what may come next.
+/// The certificates read so far, and what may follow.
 #[derive(Drop)]
 pub struct Reading {
     pub place: Place,
     pub edition: Edition,
     pub certs: Vec<GoalCert>,
-    /// Inside a tree, the nodes on the way to the open place, from the root.
+    /// In a tree, the nodes from the root to the open place.
     pub way: Vec<Way>,
 }
 
-/// What a text with this title is before anything else was read of it.
+/// Returns the edition of a text after its title.
 fn edition_of(version: Version) -> Edition
     ensures { result ≡ edition_of version }
 {
@@ -57,7 +62,7 @@ fn edition_of(version: Version) -> Edition
     }
 }
 
-/// Whether a whole variable may be split.
+/// Returns whether an integer split is allowed.
 fn may_split(edition: Edition) -> bool
     ensures { result ≡ may_split edition }
 {
@@ -67,7 +72,7 @@ fn may_split(edition: Edition) -> bool
     }
 }
 
-/// Whether the end may come.
+/// Returns whether the end is allowed.
 fn may_end(edition: Edition) -> bool
     ensures { result ≡ may_end edition }
 {
@@ -77,7 +82,7 @@ fn may_end(edition: Edition) -> bool
     }
 }
 
-/// A reading of which nothing was read.
+/// Returns the state before anything is read.
 pub fn unread(alloc: Global) -> Reading
     ensures { state_of result ≡ start }
 {
@@ -89,9 +94,10 @@ pub fn unread(alloc: Global) -> Reading
     }
 }
 
-/// Puts the tree at the open place. Gives the complete tree where no other place is open then.
+/// Puts `tree` at the open place. Returns the complete tree if no open place is left.
 fn fill(alloc: Global, way: &mut Vec<Way>, tree: Tree) -> Result<Option<Tree>, AllocError>
-    ensures { IfOk result (λ whole. fill (open_of way.old.items) (tree_of tree) ≡ filled_of whole way.new.items) }
+    ensures { IfOk result (λ whole. fill (open_of way.old.items) (tree_of tree)
+        ≡ filled_of whole way.new.items) }
 {
     let mut part = tree;
     while let Some(step) = way.pop() {
@@ -114,7 +120,9 @@ fn put_leaf(
     name: GoalName,
     leaf: Tree,
 ) -> Result<(), AllocError>
-    ensures { IfOk result (λ _. state_of reading.new ≡ filled_state reading.old.edition (certificates_of reading.old.certs.items) name (fill (open_of reading.old.way.items) (tree_of leaf))) }
+    ensures { IfOk result (λ _. state_of reading.new
+        ≡ filled_state reading.old.edition (certificates_of reading.old.certs.items) name
+        (fill (open_of reading.old.way.items) (tree_of leaf))) }
 {
     match fill(alloc, &mut reading.way, leaf)? {
         None => reading.place = Place::Inside(name),
@@ -130,9 +138,10 @@ fn put_leaf(
     Ok(())
 }
 
-/// Goes on by a question, where one is allowed.
+/// Reads a comparison. Returns whether it is allowed.
 pub fn next_split(reading: &mut Reading) -> Result<bool, AllocError>
-    ensures { IfOk result (λ allowed. after allowed (state_of reading.new) ≡ next (state_of reading.old) split_line) }
+    ensures { IfOk result (λ allowed. after allowed (state_of reading.new)
+        ≡ next (state_of reading.old) split_line) }
 {
     match reading.place {
         Place::Inside(_) if reading.way.len() < 999 => {
@@ -143,9 +152,10 @@ pub fn next_split(reading: &mut Reading) -> Result<bool, AllocError>
     }
 }
 
-/// Goes on by a split of a whole variable, where one is allowed.
+/// Reads an integer split. Returns whether it is allowed.
 pub fn next_whole(reading: &mut Reading, variable: u32, bound: i64) -> Result<bool, AllocError>
-    ensures { IfOk result (λ allowed. after allowed (state_of reading.new) ≡ next (state_of reading.old) (whole_line variable bound)) }
+    ensures { IfOk result (λ allowed. after allowed (state_of reading.new)
+        ≡ next (state_of reading.old) (whole_line variable bound)) }
 {
     match reading.place {
         Place::Inside(_) if may_split(reading.edition) && reading.way.len() < 999 => {
@@ -157,9 +167,10 @@ pub fn next_whole(reading: &mut Reading, variable: u32, bound: i64) -> Result<bo
     }
 }
 
-/// Goes on by a leaf that holds plainly, where one is allowed.
+/// Reads a leaf without multipliers. Returns whether it is allowed.
 pub fn next_plain(alloc: Global, reading: &mut Reading) -> Result<bool, AllocError>
-    ensures { IfOk result (λ allowed. after allowed (state_of reading.new) ≡ next (state_of reading.old) plain_line) }
+    ensures { IfOk result (λ allowed. after allowed (state_of reading.new)
+        ≡ next (state_of reading.old) plain_line) }
 {
     match reading.place {
         Place::Inside(name) => {
@@ -170,13 +181,14 @@ pub fn next_plain(alloc: Global, reading: &mut Reading) -> Result<bool, AllocErr
     }
 }
 
-/// Goes on by a leaf with multipliers, where one is allowed.
+/// Reads a leaf with multipliers. Returns whether it is allowed.
 fn next_farkas(
     alloc: Global,
     reading: &mut Reading,
     multipliers: Vec<(u32, u64)>,
 ) -> Result<bool, AllocError>
-    ensures { IfOk result (λ allowed. after allowed (state_of reading.new) ≡ next (state_of reading.old) (farkas_line multipliers.items)) }
+    ensures { IfOk result (λ allowed. after allowed (state_of reading.new)
+        ≡ next (state_of reading.old) (farkas_line multipliers.items)) }
 {
     match reading.place {
         Place::Inside(name) => {
@@ -187,9 +199,10 @@ fn next_farkas(
     }
 }
 
-/// Goes on by the title, where it is allowed.
+/// Reads the title. Returns whether it is allowed.
 fn next_title(alloc: Global, reading: &mut Reading, version: Version) -> bool
-    ensures { after result (state_of reading.new) ≡ next (state_of reading.old) (title_line version) }
+    ensures { after result (state_of reading.new)
+        ≡ next (state_of reading.old) (title_line version) }
 {
     match reading.place {
         Place::Start => {
@@ -202,7 +215,7 @@ fn next_title(alloc: Global, reading: &mut Reading, version: Version) -> bool
     }
 }
 
-/// Goes on by a goal, where it is allowed and grows.
+/// Reads a goal. Returns whether it is allowed and follows the latest goal.
 fn next_goal(reading: &mut Reading, name: GoalName) -> bool
     ensures { after result (state_of reading.new) ≡ next (state_of reading.old) (goal_line name) }
 {
@@ -216,7 +229,7 @@ fn next_goal(reading: &mut Reading, name: GoalName) -> bool
     }
 }
 
-/// Goes on by the end, where it is allowed.
+/// Reads the end. Returns whether it is allowed.
 fn next_last(reading: &mut Reading) -> bool
     ensures { after result (state_of reading.new) ≡ next (state_of reading.old) last_line }
 {
@@ -229,9 +242,10 @@ fn next_last(reading: &mut Reading) -> bool
     }
 }
 
-/// Goes on by the line, where it is allowed.
+/// Reads a line. Returns whether it is allowed.
 pub fn next(alloc: Global, reading: &mut Reading, line: Line) -> Result<bool, AllocError>
-    ensures { IfOk result (λ allowed. after allowed (state_of reading.new) ≡ next (state_of reading.old) (line_of line)) }
+    ensures { IfOk result (λ allowed. after allowed (state_of reading.new)
+        ≡ next (state_of reading.old) (line_of line)) }
 {
     match line {
         Line::Title(version) => Ok(next_title(alloc, reading, version)),

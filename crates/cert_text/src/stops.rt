@@ -1,4 +1,4 @@
-//! Why reading certificates stops.
+//! Errors of reading certificates.
 
 ghost use Rattle.std.specs.Prelude.{◌≡◌, alloc_error};
 ghost use Rattle.cert_text.specs.declared.stops.CertStop.TheVariants.{Memory};
@@ -6,10 +6,11 @@ ghost use Rattle.cert_text.specs.declared.stops.CertStop.TheVariants.{Memory};
 use std::alloc::{AllocError, AllocFailed};
 use thiserror::Error;
 
-/// Why a text gives no list of certificates.
+/// Why a text yields no list of certificates.
 #[derive(Debug, Drop, Error)]
 pub enum CertStop {
-    /// No list of certificates has this text; the first line that isn't allowed behind those before it, counted from 1.
+    /// No list of certificates has this text. The number is that of the first line, from 1, that no
+    /// list has after the lines before it.
     #[error("line {0} is at fault")]
     Fault(u32),
     /// Memory ran out.

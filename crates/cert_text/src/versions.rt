@@ -1,10 +1,10 @@
 //! The versions of texts of certificates.
 
-/// The version of a text, as its title says.
+/// The version of a text, given by its title.
 #[derive(Clone, Copy)]
 pub enum Version {
-    /// No whole variable is split.
+    /// No tree has an integer split.
     One,
-    /// Some whole variable is split.
+    /// Some tree has an integer split.
     Two,
 }

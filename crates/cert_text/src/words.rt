@@ -1,9 +1,9 @@
-//! Parts of a text up to a mark.
+//! Texts cut at a separator.
 
 ghost use Rattle.std.specs.Prelude.{◌≡◌, ◌++◌, ◌≢◌, All};
 ghost use Rattle.cert_text.specs.internal.Words.{IsEndOrAt};
 
-/// The bytes before the first mark, or all where there is none, and those from it on.
+/// Cuts `bytes` before the first `mark`, or at the end if there is none.
 pub fn cut(bytes: &[u8], mark: u8) -> (&[u8], &[u8])
     ensures parts { bytes.now ≡ result.0.now ++ result.1.now }
     ensures before { All (λ byte. byte ≢ mark) result.0.now }

@@ -1,10 +1,12 @@
-//! Writing certificates.
+//! The writer of certificates.
 
 ghost use Rattle.std.specs.Prelude.{◌≡◌, ◌++◌, ◌∷◌, [], OnOk, IfOk, map};
 ghost use Rattle.goal_answers.specs.Trees.{tree_of};
 ghost use Rattle.cert_text.specs.Certificates.{certificate_of, certificates_of};
-ghost use Rattle.cert_text.specs.Lines.{id_text, line_text, multipliers_text, goal as goal_line, title as title_line, whole as whole_line};
-ghost use Rattle.cert_text.specs.Texts.{closed, goals_lines, has_whole, text_of, tree_lines, version};
+ghost use Rattle.cert_text.specs.Lines.{id_text, line_text, multipliers_text, goal as goal_line};
+ghost use Rattle.cert_text.specs.Lines.{title as title_line, whole as whole_line};
+ghost use Rattle.cert_text.specs.Texts.{closed, goals_lines, has_whole, text_of, tree_lines};
+ghost use Rattle.cert_text.specs.Texts.{version};
 
 use crate::versions::Version;
 use goal_answers::{GoalCert, Tree};
@@ -12,7 +14,7 @@ use heylo_formula::GoalId;
 use number_texts::write_number;
 use std::alloc::{AllocError, Global};
 
-/// Puts which goal of a procedure it is behind the text.
+/// Appends the name of a goal in its procedure.
 fn write_id(text: &mut Vec<u8>, id: GoalId) -> Result<(), AllocError>
     ensures { OnOk result (text.new.items ≡ text.old.items ++ id_text id) }
 {
@@ -31,9 +33,10 @@ fn write_id(text: &mut Vec<u8>, id: GoalId) -> Result<(), AllocError>
     }
 }
 
-/// Puts the line of a goal behind the text.
+/// Appends the line of a goal.
 fn write_goal(text: &mut Vec<u8>, cert: &GoalCert) -> Result<(), AllocError>
-    ensures { OnOk result (text.new.items ≡ text.old.items ++ closed (map line_text (goal_line (certificate_of cert.now).name ∷ []))) }
+    ensures { OnOk result (text.new.items ≡ text.old.items
+        ++ closed (map line_text (goal_line (certificate_of cert.now).name ∷ []))) }
 {
     text.extend_from_slice(b"goal ")?;
     write_number(text, cert.proc)?;
@@ -42,7 +45,7 @@ fn write_goal(text: &mut Vec<u8>, cert: &GoalCert) -> Result<(), AllocError>
     Ok(text.push(b'\n')?)
 }
 
-/// Puts multipliers behind the text, each with a space before it.
+/// Appends multipliers, each with a space before it.
 fn write_multipliers(text: &mut Vec<u8>, multipliers: &[(u32, u64)]) -> Result<(), AllocError>
     ensures { OnOk result (text.new.items ≡ text.old.items ++ multipliers_text multipliers.now) }
 {
@@ -55,9 +58,10 @@ fn write_multipliers(text: &mut Vec<u8>, multipliers: &[(u32, u64)]) -> Result<(
     Ok(())
 }
 
-/// Puts the line of a split of a whole variable behind the text.
+/// Appends the line of an integer split.
 fn write_whole(text: &mut Vec<u8>, variable: u32, bound: i64) -> Result<(), AllocError>
-    ensures { OnOk result (text.new.items ≡ text.old.items ++ closed (map line_text (whole_line variable bound ∷ []))) }
+    ensures { OnOk result (text.new.items ≡ text.old.items
+        ++ closed (map line_text (whole_line variable bound ∷ []))) }
 {
     text.extend_from_slice(b"i ")?;
     write_number(text, variable)?;
@@ -66,9 +70,10 @@ fn write_whole(text: &mut Vec<u8>, variable: u32, bound: i64) -> Result<(), Allo
     Ok(text.push(b'\n')?)
 }
 
-/// Puts the lines of a tree behind the text.
+/// Appends the lines of a tree.
 fn write_tree(text: &mut Vec<u8>, tree: &Tree) -> Result<(), AllocError>
-    ensures { OnOk result (text.new.items ≡ text.old.items ++ closed (map line_text (tree_lines (tree_of tree.now)))) }
+    ensures { OnOk result (text.new.items ≡ text.old.items
+        ++ closed (map line_text (tree_lines (tree_of tree.now)))) }
 {
     match tree {
         Tree::Split(holds, fails) => {
@@ -90,9 +95,10 @@ fn write_tree(text: &mut Vec<u8>, tree: &Tree) -> Result<(), AllocError>
     }
 }
 
-/// Puts each goal with its tree behind the text.
+/// Appends each goal with its tree.
 fn write_goals(text: &mut Vec<u8>, certs: &[GoalCert]) -> Result<(), AllocError>
-    ensures { OnOk result (text.new.items ≡ text.old.items ++ closed (map line_text (goals_lines (certificates_of certs.now)))) }
+    ensures { OnOk result (text.new.items ≡ text.old.items
+        ++ closed (map line_text (goals_lines (certificates_of certs.now)))) }
 {
     for cert in certs {
         write_goal(text, cert)?;
@@ -101,7 +107,7 @@ fn write_goals(text: &mut Vec<u8>, certs: &[GoalCert]) -> Result<(), AllocError>
     Ok(())
 }
 
-/// Whether a whole variable is split in the tree.
+/// Returns whether the tree has an integer split.
 fn has_whole(tree: &Tree) -> bool
     ensures { result ≡ has_whole (tree_of tree.now) }
 {
@@ -112,7 +118,7 @@ fn has_whole(tree: &Tree) -> bool
     }
 }
 
-/// The version of the text of a list of certificates.
+/// Returns the version of the text of a list of certificates.
 fn version_of(certs: &[GoalCert]) -> Version
     ensures { result ≡ version (certificates_of certs.now) }
 {
@@ -124,9 +130,10 @@ fn version_of(certs: &[GoalCert]) -> Version
     Version::One
 }
 
-/// Puts the title behind the text.
+/// Appends the title.
 fn write_title(text: &mut Vec<u8>, version: Version) -> Result<(), AllocError>
-    ensures { OnOk result (text.new.items ≡ text.old.items ++ closed (map line_text (title_line version ∷ []))) }
+    ensures { OnOk result (text.new.items ≡ text.old.items
+        ++ closed (map line_text (title_line version ∷ []))) }
 {
     match version {
         Version::One => Ok(text.extend_from_slice(b"caesar certificate 1\n")?),
@@ -134,10 +141,12 @@ fn write_title(text: &mut Vec<u8>, version: Version) -> Result<(), AllocError>
     }
 }
 
-/// The text of a list of certificates: version 2 where a whole variable is split in one of them, else version 1. The bytes spell
-/// the list where each of its goals comes behind the one before it, its trees are at most 1,000 deep, hold multipliers from 1 to
-/// 2^62 - 1 with growing row indexes, one at least at each leaf, and split at numbers between -2^62 and 2^62. Fails for want of
-/// memory alone.
+/// Returns the text of a list of certificates: version 2 if one of the trees has an integer split,
+/// otherwise version 1.
+///
+/// The text spells the list if all of the following holds: the goals are in strictly growing order;
+/// the trees are at most 1,000 deep; each leaf has one or more multipliers from 1 to 2^62 - 1, with
+/// growing row indexes, or none; and integer splits are at numbers between -2^62 and 2^62.
 pub fn write_cert(alloc: Global, certs: &[GoalCert]) -> Result<Vec<u8>, AllocError>
     ensures { IfOk result (λ text. text.items ≡ text_of (certificates_of certs.now)) }
 {
