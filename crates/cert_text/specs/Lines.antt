@@ -2,12 +2,14 @@
 use Rattle.std.specs.Prelude.{ℕ, ℤ, List, [], ◌∷◌, ◌++◌, codes, decimal}
 use Rattle.std.specs.Fmt.{signed_decimal}
 use Rattle.heylo_formula.specs.declared.goals.GoalId.{GoalId}
-use Rattle.heylo_formula.specs.declared.goals.GoalId.TheVariants.{Main, Pre, Post, Invariant, Ranking}
+use Rattle.heylo_formula.specs.declared.goals.GoalId.TheVariants.{Main, Pre, Post, Invariant}
+use Rattle.heylo_formula.specs.declared.goals.GoalId.TheVariants.{Ranking}
 use Rattle.cert_text.specs.declared.goal_names.GoalName.{GoalName}
 use Rattle.cert_text.specs.declared.versions.Version.{Version}
 use Rattle.cert_text.specs.declared.versions.Version.TheVariants.{One, Two}
 
--- The title; a goal, whose tree follows; a node of a tree, `whole` that at which a whole variable is split; the end.
+-- A line: the title; a goal, which its tree follows; a node of a tree, where `whole` is an integer
+-- split; or the end.
 pub data Line : Type 0 where
   title : Version → Line
   goal : GoalName → Line
@@ -29,7 +31,7 @@ id_text (Ranking loop) = codes "ranking " ++ decimal loop
 abbrev pub multiplier_text : ℕ × ℕ → List ℕ
 multiplier_text m = 32 ∷ (decimal m.0 ++ 58 ∷ decimal m.1)
 
--- The multipliers, one behind another.
+-- The texts of the multipliers, one after another.
 abbrev pub multipliers_text : List (ℕ × ℕ) → List ℕ
 multipliers_text [] = []
 multipliers_text (m ∷ ms) = multiplier_text m ++ multipliers_text ms

@@ -1,5 +1,6 @@
--- Reading a text of certificates line by line: tools of the reader's proof, which no public clause cites.
-use Rattle.std.specs.Prelude.{ℕ, ◌+◌, ◌<◌, ◌≤◌, ◌^◌, Bool, true, false, cond, ◌&&◌, List, [], ◌∷◌, ◌++◌, Option, Some, None, length, map, reverse, nat_lt}
+-- Reading a text of certificates line by line.
+use Rattle.std.specs.Prelude.{ℕ, ◌+◌, ◌<◌, ◌≤◌, ◌^◌, Bool, true, false, cond, ◌&&◌, List, [], ◌∷◌}
+use Rattle.std.specs.Prelude.{◌++◌, Option, Some, None, length, map, reverse, nat_lt}
 use Rattle.goal_answers.specs.Trees.{Tree, tree_of}
 use Rattle.goal_answers.specs.declared.trees.GoalCert.{GoalCert}
 use Rattle.goal_answers.specs.declared.trees.Tree as T
@@ -17,7 +18,7 @@ use Rattle.cert_text.specs.Lines.{Line, title, goal, split, whole, farkas, plain
 use Rattle.cert_text.specs.declared.versions.Version.{Version}
 use Rattle.cert_text.specs.declared.versions.Version.TheVariants as versions
 
--- The line that the program holds, read as plain data.
+-- A line that the program holds, read as plain data.
 abbrev pub line_of : D.Line → Line
 line_of (D.TheVariants.Title v) = title v
 line_of (D.TheVariants.Goal n) = goal n
@@ -27,21 +28,23 @@ line_of (D.TheVariants.Farkas ms) = farkas ms.items
 line_of D.TheVariants.Plain = plain
 line_of D.TheVariants.Last = last
 
--- A node with its two trees.
+-- The node with its two subtrees.
 abbrev pub joined : Node → Tree → Tree → Tree
 joined Question t u = Tree.split t u
 joined (Whole x m) t u = Tree.whole x m t u
 
--- A node on the way to the open place, which stands in its first tree, or in its second behind this first one.
+-- A node on the path to the open place, which is in its first subtree, or in its second one after
+-- the complete first one.
 pub data Way : Type 0 where
   first : Node → Way
   second : Node → Tree → Way
 
--- Of a tree only a front was read: the nodes on the way, from the open place to the root.
+-- A tree of which the first lines are read: the nodes from its open place to the root.
 abbrev pub Open : Type 0
 Open = List Way
 
--- A tree with an open place filled: it is complete, or another place is open.
+-- The result of filling the open place of a tree: a complete tree, or a tree with another open
+-- place.
 pub data Filled : Type 0 where
   complete : Tree → Filled
   part : Open → Filled
@@ -51,24 +54,25 @@ fill [] t = complete t
 fill (Way.first k ∷ os) t = part (Way.second k t ∷ os)
 fill (Way.second k y ∷ os) t = fill os (joined k y t)
 
--- A split of a whole variable is allowed.
+-- Whether an integer split is allowed.
 abbrev pub may_split : Edition → Bool
 may_split editions.One = false
 may_split editions.Lacking = true
 may_split editions.Two = true
 
--- The end is allowed.
+-- Whether the end is allowed.
 abbrev pub may_end : Edition → Bool
 may_end editions.One = true
 may_end editions.Lacking = false
 may_end editions.Two = true
 
--- The text that this title begins.
+-- The edition of a text after its title.
 abbrev pub edition_of : Version → Edition
 edition_of versions.One = editions.One
 edition_of versions.Two = editions.Lacking
 
--- What has been read: nothing; certificates, the latest of this goal; certificates and a front of a tree; everything.
+-- The state of reading: nothing is read; some certificates are, the latest for this goal; some
+-- certificates and the first lines of a tree are; or everything is.
 pub data State : Type 0 where
   start : State
   between : Edition → List Certificate → Option GoalName → State
@@ -79,13 +83,15 @@ abbrev pub filled_state : Edition → List Certificate → GoalName → Filled �
 filled_state e cs n (complete t) = between e (cs ++ (record { name = n; tree = t }) ∷ []) (Some n)
 filled_state e cs n (part os) = inside e cs n os
 
--- A line more, or none where the line isn't allowed.
+-- The state after one more line, or `None` if the line is not allowed.
 abbrev pub next : State → Line → Option State
 next start (title v) = Some (between (edition_of v) [] None)
 next (between e cs latest) (goal n) = cond (may_follow latest n) (Some (inside e cs n [])) None
 next (between e cs latest) last = cond (may_end e) (Some (done cs)) None
-next (inside e cs n os) split = cond (nat_lt (length os) 999) (Some (inside e cs n (Way.first Question ∷ os))) None
-next (inside e cs n os) (whole x m) = cond (may_split e && nat_lt (length os) 999) (Some (inside editions.Two cs n (Way.first (Whole x m) ∷ os))) None
+next (inside e cs n os) split =
+    cond (nat_lt (length os) 999) (Some (inside e cs n (Way.first Question ∷ os))) None
+next (inside e cs n os) (whole x m) = cond (may_split e && nat_lt (length os) 999)
+    (Some (inside editions.Two cs n (Way.first (Whole x m) ∷ os))) None
 next (inside e cs n os) (farkas ms) = Some (filled_state e cs n (fill os (Tree.farkas ms)))
 next (inside e cs n os) plain = Some (filled_state e cs n (fill os Tree.plain))
 next s l = None
@@ -94,21 +100,21 @@ abbrev pub advance : Line → Option State → Option State
 advance l None = None
 advance l (Some s) = next s l
 
--- Lines more.
+-- The state after the lines, or `None` if one is not allowed.
 abbrev pub run : List Line → Option State → Option State
 run [] o = o
 run (l ∷ ls) o = run ls (advance l o)
 
--- The node on the way that the program holds.
+-- A node that the program holds, read as plain data.
 abbrev pub way_of : W.Way → Way
 way_of (W.TheVariants.First k) = Way.first k
 way_of (W.TheVariants.Second k most) = Way.second k (tree_of most.value)
 
--- The open place that the program holds, whose last entry is the innermost node.
+-- The open place that the program holds. Its last node is the innermost one.
 abbrev pub open_of : List W.Way → Open
 open_of os = reverse (map way_of os)
 
--- What the edition, certificates and nodes say at each place.
+-- The state that the program holds.
 abbrev pub state_at : P.Place → Edition → List GoalCert → List W.Way → State
 state_at P.TheVariants.Start e cs os = start
 state_at (P.TheVariants.Between latest) e cs os = between e (certificates_of cs) latest
@@ -118,27 +124,27 @@ state_at P.TheVariants.Done e cs os = done (certificates_of cs)
 abbrev pub state_of : Reading → State
 state_of r = state_at r.place r.edition r.certs.items r.way.items
 
--- The state reached, where the line is allowed.
+-- The state, or `None` if the line is not allowed.
 abbrev pub after : Bool → State → Option State
 after allowed s = cond allowed (Some s) None
 
--- The complete tree, or else the open places that are left.
+-- The complete tree, or the open place that is left.
 abbrev pub filled_of : Option T.Tree → List W.Way → Filled
 filled_of (Some t) os = complete (tree_of t)
 filled_of None os = part (open_of os)
 
--- A row index and a multiplier that are within their bounds.
+-- The row index and the multiplier are within their limits.
 pub record IsMultiplier (m : ℕ × ℕ) : Type 0 where
   pub within : m.0 < 2 ^ 32
   pub positive : 0 < m.1
   pub narrow : m.1 < 2 ^ 62
 
--- The least row index that may come behind multipliers.
+-- The least row index that may follow the multipliers.
 abbrev pub index_after : ℕ → List (ℕ × ℕ) → ℕ
 index_after least [] = least
 index_after least (m ∷ ms) = index_after (m.0 + 1) ms
 
--- Multipliers within their bounds, whose indexes grow from one on.
+-- The multipliers are within their limits, and their indexes grow from `least` on.
 abbrev pub IsRising : ℕ → List (ℕ × ℕ) → Type 0
 IsRising least [] = Unit {0}
 IsRising least (m ∷ ms) = (least ≤ m.0) × IsMultiplier m × IsRising (m.0 + 1) ms
