@@ -11,11 +11,10 @@ use Rattle.std.proofs.lemmas.Int.{to_z-of_z, fits_signed_from_abs}
 use Rattle.std.proofs.lemmas.Str.{IsUtf8-from_ascii}
 use Rattle.std.specs.Str.{IsUtf8}
 
--- The digits of a number are a text.
 pub decimal_is_text : (n : ℕ) (bs : List ℕ) → n < 2 ^ 64 → bs ≡ decimal n → IsUtf8 bs
 decimal_is_text n bs small e = let P : List ℕ → Type 0 = λ xs. IsUtf8 xs in subst P (sym e) (IsUtf8-from_ascii (decimal n) (IsAscii-decimal n small))
 
--- A whole number below 2^62 without its sign is one below 2^63, however that is counted.
+-- An integer below 2^62 without its sign is below 2^63, for both definitions of the absolute value.
 pub below_half : (m : ℤ) → unsigned_abs m < 2 ^ 62 → mag m < 2 ^ 63
 below_half (pos n) h = omega arith
 below_half (negsuc n) h = omega arith
@@ -24,11 +23,10 @@ pub below_top : (m : ℤ) → unsigned_abs m < 2 ^ 63 → mag m < 2 ^ 63
 below_top (pos n) h = h
 below_top (negsuc n) h = omega arith
 
--- The digits of a whole number are a text.
 pub signed_is_text : (m : ℤ) (bs : List ℕ) → unsigned_abs m < 2 ^ 63 → bs ≡ signed_decimal m → IsUtf8 bs
 signed_is_text m bs small e = let P : List ℕ → Type 0 = λ xs. IsUtf8 xs in subst P (sym e) (IsUtf8-from_ascii (signed_decimal m) (IsAscii-signed m (below_top m small)))
 
--- The bits of a whole number below 2^63 without its sign stand for it.
+-- An integer below 2^63 without its sign survives the conversion to 64 bits and back.
 pub bits_stand : (n m : ℤ) → n ≡ m → unsigned_abs m < 2 ^ 63 → to_z w64 (of_z w64 n) ≡ m
 bits_stand n m e small = ap (λ (z : ℤ). to_z w64 (of_z w64 z)) e ∙ to_z-of_z w64 m (fits_signed_from_abs w64 m small)
 
@@ -38,7 +36,6 @@ own = numerals_by_value (AllDigits 10) tells_digits
 abbrev first_of : List ℕ → ℕ
 first_of bs = get_or bs 0 0
 
--- No number's digits are an empty text.
 pub decimal_has_one : (n : ℕ) → n < 2 ^ 64 → 0 < length (decimal n)
 decimal_has_one n small = (decimal_is_IsNumeral n small).0.0
 
@@ -46,7 +43,7 @@ pub signed_has_one : (m : ℤ) → unsigned_abs m < 2 ^ 63 → 0 < length (signe
 signed_has_one (pos n) small = decimal_has_one n (omega arith)
 signed_has_one (negsuc n) small = omega arith
 
--- The digits of 0 alone begin with `0`.
+-- Only the digits of 0 begin with `0`.
 pub zero_alone : (n first : ℕ) (behind : List ℕ) → first ≡ 48 → n < 2 ^ 64 → first ∷ behind ≡ decimal n → (n ≡ 0) × (behind ≡ [])
 zero_alone zero first behind f small e = let t : first ∷ behind ≡ 48 ∷ [] = e ∙ decimal_digit 0 (omega arith) in (refl, cc)
 zero_alone (suc n) first behind f small e =
@@ -58,13 +55,13 @@ pub zero_text : (first : ℕ) (bs behind : List ℕ) → bs ≡ first ∷ behind
 zero_text first bs [] e f none = e ∙ ap (λ (b : ℕ). b ∷ []) f ∙ sym (decimal_digit 0 (omega arith))
 zero_text first bs (b ∷ behind) e f none = absurd (omega arith)
 
--- A byte that is no digit begins the digits of no number.
 pub begins_with_digit : (mark n first : ℕ) (behind : List ℕ) → (48 ≤ mark → mark ≤ 57 → ⊥) → n < 2 ^ 64 → first ∷ behind ≡ decimal n → first ≢ mark
 begins_with_digit mark n first behind apart small e is =
     let g : first ≡ first_of (decimal n) = ap first_of e in
     not_in_digits own (decimal n) mark (decimal_is_IsNumeral n small).0.1 (λ r. apart r.0 r.1) 0 (decimal_has_one n small) (sym g ∙ is)
 
--- What `parse` reads of a text that begins neither with `0` nor with a sign has this text.
+-- The number that `parse` reads in a text has this text, if it begins neither with `0` nor with a
+-- sign.
 pub read_back : {E : Type 0} (n : ℕ) (bs : List ℕ) (first : ℕ) (behind : List ℕ) (r : Result ℕ E) → bs ≡ first ∷ behind → first ≢ 48 → first ≢ 43 → r ≡ Ok n → ParsesUnsigned 64 10 bs r → bs ≡ decimal n
 read_back n bs first behind r e z p is h =
     let f : first_of bs ≡ first = ap first_of e in
@@ -73,7 +70,7 @@ read_back n bs first behind r e z p is h =
     let d = decimal-digits_value own bs j.0.0 j.0.1 (λ q. absurd (z (sym f ∙ q))) j.0.2 in
     sym d ∙ ap decimal (sym j.1)
 
--- The digits of a whole number begin with a minus where it is negative.
+-- The digits of an integer begin with a minus if it is negative.
 pub minus_text : (n : ℕ) (z : ℤ) (bs behind : List ℕ) (first : ℕ) → bs ≡ first ∷ behind → first ≡ 45 → behind ≡ decimal n → 0 < n → z ≡ neg_ℤ (pos n) → bs ≡ signed_decimal z
 minus_text zero z bs behind first e f d some is = absurd (omega arith)
 minus_text (suc n) z bs behind first e f d some is =

@@ -1,4 +1,4 @@
--- How the edition of a text goes on over trees.
+-- The edition of a text before and after trees.
 use Rattle.std.proofs.Common.{◌≡◌, Bool, true, false, ◌||◌, ◌&&◌, refl}
 use Rattle.cert_text.specs.declared.states.Edition.{Edition}
 use Rattle.cert_text.specs.declared.states.Edition.TheVariants.{One, Lacking, Two}
@@ -6,25 +6,24 @@ use Rattle.cert_text.specs.declared.versions.Version.{Version}
 use Rattle.cert_text.specs.declared.versions.Version.TheVariants as versions
 use Rattle.cert_text.specs.internal.ReadStates.{may_split}
 
--- The title of a text.
 abbrev pub title_of : Edition → Version
 title_of One = versions.One
 title_of Lacking = versions.Two
 title_of Two = versions.Two
 
--- A whole variable was split.
+-- Whether an integer split has been read.
 abbrev pub splits : Edition → Bool
 splits One = false
 splits Lacking = false
 splits Two = true
 
--- Version 1 splits none.
+-- Version 1 has no integer split.
 abbrev pub IsAllowed : Edition → Bool → Type 0
 IsAllowed One w = w ≡ false
 IsAllowed Lacking w = Unit {0}
 IsAllowed Two w = Unit {0}
 
--- The edition behind a tree that splits one or none.
+-- The edition after a tree, which has an integer split or not.
 abbrev pub passed : Edition → Bool → Edition
 passed One w = One
 passed Lacking true = Two
@@ -55,7 +54,6 @@ allowed_second Lacking true b h = tt
 allowed_second Lacking false b h = tt
 allowed_second Two a b h = tt
 
--- A split is allowed where there is room.
 pub begins_with : (e : Edition) (b : Bool) → IsAllowed e true → b ≡ true → (may_split e && b) ≡ true
 begins_with One b h r = absurd (cc)
 begins_with Lacking b h r = r

@@ -1,4 +1,4 @@
--- What is answered at the end of a text, and at a line that isn't allowed.
+-- The result of reading at the end of a text, and at an invalid line.
 use Prim.Native.Nat.{suc, zero}
 use Rattle.std.proofs.Common.{◌≡◌, ◌≢◌, ℕ, ℤ, ◌+◌, ◌≤◌, List, [], ◌∷◌, ◌++◌, Some, None, Result, Ok, Err, length, length-append, get_or, Vec, Global, IfOk, IfErr, MatchResult, refl, sym, ap, ◌∙◌, subst, arith}
 use Rattle.std.proofs.lemmas.List.{append-nil}
@@ -19,7 +19,7 @@ use Rattle.cert_text.specs.internal.Words.{IsFreeOf, IsEndOrAt}
 use Rattle.cert_text.proofs.Progress.{IsProgress, line_free, progress_more, fault_here, fault_at_end, spelled_whole, spelled_only, fault_once}
 use Rattle.cert_text.proofs.Unique.{line_once}
 
--- The answer of a text.
+-- The result of reading `bytes` is right.
 pub record IsAnswer (bytes : List ℕ) (r : Result (Vec GoalCert Global) CertStop) : Type 0 where
   pub found : IfOk r (λ certs. Spells (certificates_of certs.items) bytes)
   pub fault : IfErr r (λ stop. IsCertStop bytes stop)
@@ -33,7 +33,7 @@ not_empty : (word behind : List ℕ) → word ++ 10 ∷ behind ≡ [] → ⊥
 not_empty [] behind e = absurd (cc)
 not_empty (b ∷ word) behind e = absurd (cc)
 
--- No line is closed behind those read.
+-- No line feed follows the lines read.
 answer_end : (bytes rest : List ℕ) (number : ℕ) (s : State) (r : Result (Vec GoalCert Global) CertStop) → IsProgress bytes rest number s
     → All (λ b. b ≢ 10) rest → IsWhole s rest number r → IsAnswer bytes r
 answer_end bytes rest number s (Ok certs) p free w =
@@ -50,7 +50,7 @@ answer_end bytes rest number s (Err (Fault line)) p free w =
     subst Q (sym w.0) (answer_fault bytes number f)
 answer_end bytes rest number s (Err (Memory error)) p free w = record { found = tt; fault = tt; only = λ cs sp. tt; only_fault = λ line g. tt }
 
--- Nothing more is read of the rest.
+-- The rest of the text cannot be read.
 pub answer_stuck : (bytes rest : List ℕ) (number : ℕ) (s s' : State) (r : Result (Vec GoalCert Global) CertStop) → IsProgress bytes rest number s
     → IsStuck s s' rest → IsWhole s' rest number r → IsAnswer bytes r
 answer_stuck bytes rest number s s' r p (IsStuck.unclosed free same) w =
@@ -62,18 +62,18 @@ answer_stuck bytes rest number s s' (Err (Fault line)) p (IsStuck.refused word b
     subst Q (sym w.0) (answer_fault bytes number (fault_here bytes rest word behind number s p e free none))
 answer_stuck bytes rest number s s' (Err (Memory error)) p (IsStuck.refused word behind free e none) w = absurd w
 
--- A line more is read of the rest.
+-- One more line of the text is read.
 pub step_more : (bytes rest behind : List ℕ) (number : ℕ) (s s' : State) → IsProgress bytes rest number s → IsStep s s' rest behind → IsProgress bytes behind (number + 1) s'
 step_more bytes rest behind number s s' p t = progress_more bytes rest (line_text t.line) behind number s s' t.line p t.parts t.valid refl t.step t.only
 
--- Each line takes a byte at least.
+-- Each line has at least one byte, its line feed.
 pub step_shrinks : (rest behind : List ℕ) (number total : ℕ) (s s' : State) → IsStep s s' rest behind → number + length rest ≤ total → number + 1 + length behind ≤ total
 step_shrinks rest behind number total s s' t le =
     let a = ap (λ (bs : List ℕ). length bs) t.parts in
     let b = length-append (line_text t.line) (10 ∷ behind) in
     omega arith
 
--- What reading a cut line gives.
+-- The result of reading a line that `cut` found.
 
 cut_line : (rest before from : List ℕ) (first : ℕ) (behind : List ℕ) → rest ≡ before ++ from → IsEndOrAt 10 from → from ≡ first ∷ behind → rest ≡ before ++ 10 ∷ behind
 cut_line rest before from first behind e at f =
@@ -81,19 +81,16 @@ cut_line rest before from first behind e at f =
     let g : first ≡ 10 = subst P f at in
     e ∙ ap (λ (bs : List ℕ). before ++ bs) (f ∙ ap (λ (b : ℕ). b ∷ behind) g)
 
--- No line is closed.
 pub stuck_unclosed : (rest before from : List ℕ) (s : State) → rest ≡ before ++ from → from ≡ [] → All (λ b. b ≢ 10) before → IsStuck s s rest
 stuck_unclosed rest before from s e none free =
     let same : rest ≡ before = e ∙ ap (λ (bs : List ℕ). before ++ bs) none ∙ append-nil before in
     let P : List ℕ → Type 0 = λ bs. All (λ b. b ≢ 10) bs in
     IsStuck.unclosed (subst P (sym same) free) refl
 
--- The line cut isn't allowed.
 pub stuck_refused : (rest before from : List ℕ) (first : ℕ) (behind : List ℕ) (s s' : State) → rest ≡ before ++ from → IsEndOrAt 10 from → from ≡ first ∷ behind
     → All (λ b. b ≢ 10) before → ((l : Line) → IsLine l → before ≡ line_text l → next s l ≡ None) → IsStuck s s' rest
 stuck_refused rest before from first behind s s' e at f free none = IsStuck.refused before behind free (cut_line rest before from first behind e at f) none
 
--- The line cut is allowed.
 pub step_cut : (rest before from : List ℕ) (first : ℕ) (behind : List ℕ) (s s' : State) (l : Line) → rest ≡ before ++ from → IsEndOrAt 10 from → from ≡ first ∷ behind
     → IsLine l → before ≡ line_text l → next s l ≡ Some s' → ((k : Line) → IsLine k → before ≡ line_text k → Some l ≡ Some k) → IsStep s s' rest behind
 step_cut rest before from first behind s s' l e at f k w n same = record {
@@ -104,7 +101,7 @@ step_cut rest before from first behind s s' l e at f k w n same = record {
   only = λ j i t. let h = same j i (w ∙ t) in cc;
 }
 
--- What reading a line of one letter gives.
+-- The result of reading a line of one letter.
 
 abbrev first : List ℕ → ℕ
 first bs = get_or bs 0 0
@@ -149,7 +146,7 @@ stuck_plain rest behind s s' e n =
     let P : Line → Type 0 = λ l. next s l ≡ None in
     IsStuck.refused (116 ∷ []) behind (letter_free 116 (λ h. omega arith)) e (λ l i t. subst P (sym (plain_only l i t)) n)
 
--- What reading a line that splits a whole variable gives.
+-- The result of reading the line of an integer split.
 
 all_from_free : (mark : ℕ) (bs : List ℕ) → IsFreeOf mark bs → All (λ b. b ≢ mark) bs
 all_from_free mark [] free i d l = absurd (omega arith)

@@ -1,4 +1,4 @@
--- A leaf that makes a tree whole.
+-- A leaf that completes a tree.
 use Rattle.std.proofs.Common.{◌≡◌, List, [], ◌∷◌, ◌++◌, Some, sym, ap, ◌∙◌, subst}
 use Rattle.std.proofs.lemmas.List.{map-append}
 use Rattle.goal_answers.specs.Trees.{tree_of}

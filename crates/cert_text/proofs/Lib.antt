@@ -8,5 +8,6 @@ pub mod WrittenLines
 pub mod Progress
 pub mod Unique
 pub mod EndAnswers
+mod FaultExamples
 pub mod FrontDigits
 pub mod Rows

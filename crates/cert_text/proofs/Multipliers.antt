@@ -69,14 +69,15 @@ pub multipliers_text_push : (ms : List (ℕ × ℕ)) (m : ℕ × ℕ) → multip
 multipliers_text_push [] m = append-nil (multiplier_text m)
 multipliers_text_push (n ∷ ms) m = ap (λ (bs : List ℕ). multiplier_text n ++ bs) (multipliers_text_push ms m) ∙ sym (append_assoc (multiplier_text n) (multipliers_text ms) (multiplier_text m))
 
--- Other multipliers of this text begin with those read.
+-- The multipliers `ms` of the text begin with those read, `found`.
 pub record GoesOn (ms found : List (ℕ × ℕ)) (least : ℕ) (rest : List ℕ) : Type 0 where
   pub more : List (ℕ × ℕ)
   pub all : ms ≡ found ++ more
   pub rising : IsRising least more
   pub text : rest ≡ multipliers_text more
 
--- What has been read of a text of multipliers.
+-- `found` was read of `text`, and `rest` is left. Each list of multipliers with this text begins
+-- with `found`.
 pub record IsRead (text rest : List ℕ) (found : List (ℕ × ℕ)) (least : ℕ) : Type 0 where
   pub parts : text ≡ multipliers_text found ++ rest
   pub rising : IsRising 0 found
@@ -86,7 +87,6 @@ pub record IsRead (text rest : List ℕ) (found : List (ℕ × ℕ)) (least : �
 pub read_none : (text : List ℕ) → IsRead text text [] 0
 read_none text = record { parts = refl; rising = tt; next = refl; only = λ ms r e. record { more = ms; all = refl; rising = r; text = e } }
 
--- What reading one multiplier more has to say of others.
 abbrev pub IsOnlyFirst : List ℕ → ℕ → ℕ × ℕ → List ℕ → Type 0
 IsOnlyFirst rest least m behind = (n : ℕ × ℕ) (ms : List (ℕ × ℕ)) → IsMultiplier n → least ≤ n.0 → rest ≡ multipliers_text (n ∷ ms) → (m ≡ n) × (behind ≡ multipliers_text ms)
 
@@ -117,7 +117,6 @@ pub no_more : (rest : List ℕ) (least : ℕ) → 0 < length rest → ((n : ℕ 
 no_more rest least some none [] r e = let h = ap (λ (bs : List ℕ). length bs) e in absurd (omega arith)
 no_more rest least some none (n ∷ more) r e = none n more r.1 r.0 e
 
--- No list of multipliers has the text, where the next one can't be read.
 pub stopped : (text rest : List ℕ) (found : List (ℕ × ℕ)) (least : ℕ) → IsRead text rest found least → 0 < length rest
     → ((n : ℕ × ℕ) (ms : List (ℕ × ℕ)) → IsMultiplier n → least ≤ n.0 → rest ≡ multipliers_text (n ∷ ms) → ⊥)
     → (ms : List (ℕ × ℕ)) → AreMultipliers ms → text ≡ multipliers_text ms → ⊥

@@ -1,4 +1,4 @@
--- How far a text has been read, and what follows at its end or at a line that isn't allowed.
+-- The lines of a text that were read, and the first invalid line.
 use Rattle.std.proofs.Common.{◌≡◌, ◌≢◌, ℕ, ◌+◌, ◌<◌, ◌≤◌, ◌^◌, ◌==◌, true, not, List, [], ◌∷◌, ◌++◌, Option, Some, None, length, map, decimal, codes, refl, sym, ap, ◌∙◌, subst, arith, append_assoc, length-append}
 use Rattle.std.proofs.lemmas.List.{append-nil, map-append, length-map}
 use Rattle.std.specs.Fmt.{signed_decimal}
@@ -18,8 +18,6 @@ use Rattle.cert_text.specs.internal.Words.{IsFreeOf}
 use Rattle.cert_text.proofs.TextCuts.{IsFreeOf-append, IsFreeOf-decimal, IsFreeOf-signed, line_feed_is_no_digit, multiplier_free, cut_once, free_from_all}
 use Rattle.cert_text.proofs.Multipliers.{rising_from_multipliers}
 use Rattle.cert_text.proofs.Walk.{run-append, run-certificate_lines, run-front_lines, AreBegun, first_lines, no_state, end_of, whole_list}
-
--- No line holds a line feed.
 
 free_by_test : (bs : List ℕ) → list_all (λ b. not (b == 10)) bs ≡ true → IsFreeOf 10 bs
 free_by_test [] e = tt
@@ -54,8 +52,6 @@ line_free (farkas ms) k = ((λ h. omega arith), free_multipliers 0 ms (rising_fr
 line_free plain k = free_by_test (codes "t") refl
 line_free last k = free_by_test (codes "end") refl
 
--- The lines of a writable list are lines.
-
 lines-append : (ks ls : List Line) → AllByRecursion IsLine ks → AllByRecursion IsLine ls → AllByRecursion IsLine (ks ++ ls)
 lines-append [] ls a b = b
 lines-append (k ∷ ks) ls a b = (a.0, lines-append ks ls a.1 b)
@@ -76,14 +72,14 @@ certificate_lines_are cs w = (tt, lines-append (goals_lines cs) (last ∷ []) (g
 pub front_lines_are : (cs : List Certificate) → AreWritable cs → AllByRecursion IsLine (title versions.Two ∷ goals_lines cs)
 front_lines_are cs w = (tt, goals_lines_are cs w.each)
 
--- Lines of a text that begins with lines read.
+-- The lines `ks` of the text begin with those read.
 pub record GoesOn (ks lines : List Line) (more : List (List ℕ)) : Type 0 where
   pub others : List Line
   pub all : ks ≡ lines ++ others
   pub valid : AllByRecursion IsLine others
   pub texts : map line_text others ≡ more
 
--- The lines read of a text so far, up to a rest, and the state that they lead to.
+-- The lines of a text that were read up to `rest`, and the state `s` that they lead to.
 pub record IsProgress (bytes rest : List ℕ) (number : ℕ) (s : State) : Type 0 where
   pub lines : List Line
   pub valid : AllByRecursion IsLine lines
@@ -115,7 +111,6 @@ goes_on_more ks lines l word more w same (o ∷ os) all k e =
     let P : Line → Type 0 = λ x. ks ≡ lines ++ x ∷ os in
     record { others = os; all = subst P (same o k.0 (w ∙ sym t)) all ∙ sym (append_assoc lines (l ∷ []) os); valid = k.1; texts = m }
 
--- A line more was read.
 pub progress_more : (bytes rest word behind : List ℕ) (number : ℕ) (s s' : State) (l : Line) → IsProgress bytes rest number s → rest ≡ word ++ 10 ∷ behind
     → IsLine l → word ≡ line_text l → next s l ≡ Some s' → ((k : Line) → IsLine k → word ≡ line_text k → k ≡ l) → IsProgress bytes behind (number + 1) s'
 progress_more bytes rest word behind number s s' l p e k w n same =
@@ -138,9 +133,7 @@ progress_more bytes rest word behind number s s' l p e k w n same =
           goes_on_more ks p.lines l word more w same g.others g.all g.valid g.texts;
     }
 
--- What follows the lines read in a text of a list.
-
--- Lines whose text begins with that of lines.
+-- The text of the lines `ks` begins with that of the lines `xs`.
 record IsFrontOf (xs ks : List Line) (rest : List ℕ) : Type 0 where
   more : List Line
   valid : AllByRecursion IsLine more
@@ -161,7 +154,7 @@ front_of (l ∷ ks) (y ∷ xs) rest k x e =
     let r = front_of ks xs rest k.1 x.1 d in
     record { more = r.more; valid = r.valid; texts = ap (λ (t : List ℕ). t ∷ map line_text xs) c.0 ∙ ap (λ (ts : List (List ℕ)). line_text l ∷ ts) r.texts; text = r.text }
 
--- The text of a list goes on behind the lines read.
+-- The text of the list `cs` begins with the lines read.
 record IsSpelledOn (cs : List Certificate) (lines : List Line) (rest : List ℕ) : Type 0 where
   others : List Line
   valid : AllByRecursion IsLine others
@@ -180,15 +173,12 @@ no_feed [] (c ∷ before) behind f e = absurd (cc)
 no_feed (b ∷ bs) [] behind f e = let h : b ≡ 10 = cc in f.0 h
 no_feed (b ∷ bs) (c ∷ before) behind f e = let h : bs ≡ before ++ 10 ∷ behind = cc in no_feed bs before behind f.1 h
 
--- The lines read are the first ones of a list.
 allowed_so_far : (bytes rest : List ℕ) (number : ℕ) (s : State) (p : IsProgress bytes rest number s) → AreFirstLines (map line_text p.lines)
 allowed_so_far bytes rest number s p = texts_begun p.lines (first_lines p.lines s p.valid p.reached)
   where
     texts_begun : (ls : List Line) → AreBegun ls → AreFirstLines (map line_text ls)
     texts_begun ls (AreBegun.of_list cs more w e) = of_text cs (map line_text more) w (ap (λ (ks : List Line). map line_text ks) e ∙ map-append line_text ls more)
     texts_begun ls (AreBegun.of_front cs more w e) = before_end cs (map line_text more) w (ap (λ (ks : List Line). map line_text ks) e ∙ map-append line_text ls more)
-
--- A line that isn't allowed.
 
 next_refused : (lines : List Line) (s : State) (word : List ℕ) (ks : List Line) (z : State) → run lines (Some start) ≡ Some s → run ks (Some start) ≡ Some z
     → ((l : Line) → IsLine l → word ≡ line_text l → next s l ≡ None)
@@ -198,7 +188,7 @@ next_refused lines s word ks z e r none (o ∷ os) more k all t =
     let f : word ≡ line_text o = cc in
     no_state lines s o os ks z e (none o k.0 f) r all
 
--- A text that goes on from the lines read goes on otherwise than by a line that isn't allowed.
+-- No text of valid lines has the invalid line in this place.
 none_of : (bytes rest word : List ℕ) (number : ℕ) (s : State) (p : IsProgress bytes rest number s) (ks : List Line) (z : State) (others : List (List ℕ)) → AllByRecursion IsLine ks
     → run ks (Some start) ≡ Some z → ((l : Line) → IsLine l → word ≡ line_text l → next s l ≡ None) → map line_text ks ≡ (map line_text p.lines ++ word ∷ []) ++ others → ⊥
 none_of bytes rest word number s p ks z others valid r none e =
@@ -211,7 +201,7 @@ stops_here bytes rest word behind number s p e free none (of_text cs others w f)
 stops_here bytes rest word behind number s p e free none (before_end cs others w f) =
     none_of bytes rest word number s p (title versions.Two ∷ goals_lines cs) _ others (front_lines_are cs w) (run-front_lines cs w) none f
 
--- A text of which a line was cut is cut there alone.
+-- A text has only one first line and one rest.
 same_word : (rest word behind next' behind' : List ℕ) → rest ≡ word ++ 10 ∷ behind → IsFreeOf 10 word → rest ≡ next' ++ 10 ∷ behind' → IsFreeOf 10 next' → next' ≡ word
 same_word rest word behind next' behind' e f g h = (cut_once 10 next' (10 ∷ behind') word (10 ∷ behind) h f refl refl (sym g ∙ e)).0
 
@@ -243,7 +233,6 @@ spelled_past lines s rest word behind cs r w e free none (o ∷ os) k all t =
     let f = same_word rest word behind (line_text o) (closed (map line_text os)) e free t (line_free o k.0) in
     no_state lines s o os (certificate_lines cs) (done cs) r (none o k.0 (sym f)) (run-certificate_lines cs w) all
 
--- The line behind those read isn't allowed.
 pub fault_here : (bytes rest word behind : List ℕ) (number : ℕ) (s : State) → IsProgress bytes rest number s → rest ≡ word ++ 10 ∷ behind → All (λ b. b ≢ 10) word
     → ((l : Line) → IsLine l → word ≡ line_text l → next s l ≡ None) → IsFirstFault bytes number
 fault_here bytes rest word behind number s p e free none =
@@ -263,14 +252,11 @@ fault_here bytes rest word behind number s p e free none =
           spelled_past p.lines s rest word behind cs p.reached sp.writable e free' none o.others o.valid o.all o.text;
     }
 
--- The end of a text.
-
 ends_whole : (lines : List Line) (s : State) (rest : List ℕ) (cs : List Certificate) → run lines (Some start) ≡ Some s → AreWritable cs → IsFreeOf 10 rest
     → (others : List Line) → AllByRecursion IsLine others → certificate_lines cs ≡ lines ++ others → rest ≡ closed (map line_text others) → (s ≡ done cs) × (rest ≡ [])
 ends_whole lines s rest cs r w free [] k all t = (end_of lines s cs r w (all ∙ append-nil lines), t)
 ends_whole lines s rest cs r w free (o ∷ os) k all t = absurd (no_feed rest (line_text o) (closed (map line_text os)) free t)
 
--- No line is closed any more, and this is no end of a list.
 pub fault_at_end : (bytes rest : List ℕ) (number : ℕ) (s : State) → IsProgress bytes rest number s → All (λ b. b ≢ 10) rest
     → ((cs : List Certificate) → s ≡ done cs → rest ≡ [] → ⊥) → IsFirstFault bytes number
 fault_at_end bytes rest number s p free none =
@@ -288,7 +274,6 @@ fault_at_end bytes rest number s p free none =
           none cs w.0 w.1;
     }
 
--- The text is that of the certificates read.
 pub spelled_whole : (bytes rest : List ℕ) (number : ℕ) (s : State) (cs : List Certificate) → IsProgress bytes rest number s → s ≡ done cs → rest ≡ [] → Spells cs bytes
 spelled_whole bytes rest number s cs p e f =
     let w = whole_list p.lines cs p.valid (p.reached ∙ ap (λ (t : State). Some t) e) in
@@ -297,15 +282,12 @@ spelled_whole bytes rest number s cs p e f =
       text = p.parts ∙ ap (λ (bs : List ℕ). closed (map line_text p.lines) ++ bs) f ∙ append-nil (closed (map line_text p.lines)) ∙ ap (λ (ls : List Line). closed (map line_text ls)) (sym w.1);
     }
 
--- It is that of no others.
 pub spelled_only : (bytes rest : List ℕ) (number : ℕ) (s : State) (cs ds : List Certificate) → IsProgress bytes rest number s → s ≡ done cs → rest ≡ [] → Spells ds bytes → cs ≡ ds
 spelled_only bytes rest number s cs ds p e f sp =
     let o = spelled_on bytes rest number s p ds sp in
     let P : List ℕ → Type 0 = IsFreeOf 10 in
     let w = ends_whole p.lines s rest ds p.reached sp.writable (subst P (sym f) tt) o.others o.valid o.all o.text in
     let d : done cs ≡ done ds = sym e ∙ w.0 in cc
-
--- The first fault is one.
 
 first_lines_front : (xs ys : List (List ℕ)) → AreFirstLines (xs ++ ys) → AreFirstLines xs
 first_lines_front xs ys (of_text cs others w e) = of_text cs (ys ++ others) w (e ∙ append_assoc xs ys others)

@@ -1,4 +1,4 @@
--- The definitions, computed on worked rows.
+-- The definitions, computed for small lists.
 use Rattle.std.proofs.Common.{◌≡◌, ℕ, [], ◌∷◌, pos, negsuc, true, false, codes, refl}
 use Rattle.std.specs.Fmt.{digits}
 use Rattle.heylo_formula.specs.declared.goals.GoalId.{GoalId}

@@ -1,4 +1,4 @@
--- Texts that are cut at a mark, in one way alone.
+-- A text has only one cut at a separator.
 use Prim.Native.Nat.{suc}
 use Rattle.std.proofs.Common.{◌≡◌, ◌≢◌, ℕ, ℤ, pos, negsuc, ◌<◌, ◌^◌, List, [], ◌∷◌, ◌++◌, Some, length, get_or, decimal, unsigned_abs, refl, sym, ap, ◌∙◌, arith}
 use Rattle.std.specs.Fmt.{signed_decimal}
@@ -25,11 +25,10 @@ pub IsFreeOf-append : (mark : ℕ) (bs cs : List ℕ) → IsFreeOf mark bs → I
 IsFreeOf-append mark [] cs f g = g
 IsFreeOf-append mark (b ∷ bs) cs f g = (f.0, IsFreeOf-append mark bs cs f.1 g)
 
--- No digit of a number is a byte that is no digit.
+-- The digits of a number do not include a byte that is no digit.
 pub IsFreeOf-decimal : (mark n : ℕ) → (IsInRange 48 57 mark → ⊥) → n < 2 ^ 64 → IsFreeOf mark (decimal n)
 IsFreeOf-decimal mark n apart small = free_from_reads mark (decimal n) (λ i l. not_in_digits own (decimal n) mark (decimal_is_IsNumeral n small).0.1 apart i l)
 
--- The same of a whole number, where the byte is no `-` either.
 pub IsFreeOf-signed : (mark : ℕ) (m : ℤ) → (IsInRange 48 57 mark → ⊥) → 45 ≢ mark → unsigned_abs m < 2 ^ 62 → IsFreeOf mark (signed_decimal m)
 IsFreeOf-signed mark (pos n) apart other small = IsFreeOf-decimal mark n apart (omega arith)
 IsFreeOf-signed mark (negsuc n) apart other small = (other, IsFreeOf-decimal mark (suc n) apart (omega arith))
@@ -43,7 +42,6 @@ colon_is_no_digit r = let a = r.1 in omega arith
 pub line_feed_is_no_digit : IsInRange 48 57 10 → ⊥
 line_feed_is_no_digit r = let a = r.0 in omega arith
 
--- Where two parts are the same text, they are the same parts.
 pub cut_once : (mark : ℕ) (a b c d : List ℕ) → IsFreeOf mark a → IsFreeOf mark c → IsEndOrAt mark b → IsEndOrAt mark d → a ++ b ≡ c ++ d → (a ≡ c) × (b ≡ d)
 cut_once mark [] b [] d f g p q e = (refl, e)
 cut_once mark [] [] (y ∷ c) d f g p q e = absurd (cc)
@@ -56,7 +54,6 @@ cut_once mark (x ∷ a) b (y ∷ c) d f g p q e =
     let r = cut_once mark a b c d f.1 g.1 p q t in
     (ap (λ z. z ∷ a) h ∙ ap (λ z. y ∷ z) r.0, r.1)
 
--- What `cut` gives, where the text is known.
 pub cut_is : (mark : ℕ) (text before behind word more : List ℕ) → text ≡ before ++ behind → All (λ b. b ≢ mark) before → IsEndOrAt mark behind
     → IsFreeOf mark word → IsEndOrAt mark more → text ≡ word ++ more → (before ≡ word) × (behind ≡ more)
 cut_is mark text before behind word more parts free at f q e = cut_once mark before behind word more (free_from_all mark before free) f at q (sym parts ∙ e)
@@ -84,7 +81,6 @@ pub cut_after_multiplier : (text before behind : List ℕ) (m : ℕ × ℕ) (ms 
 cut_after_multiplier text before behind m ms k parts free at e =
     cut_is 32 text before behind (decimal m.0 ++ 58 ∷ decimal m.1) (multipliers_text ms) parts free at (multiplier_free 32 m space_is_no_digit (λ h. omega arith) k) (multipliers_end_or_at ms) e
 
--- Equal parts make equal values.
 pub same_name : (p q : ℕ) (i j : GoalId) → p ≡ q → i ≡ j → let N : Type 0 = GoalName in let a : N = record { proc = p; id = i } in let b : N = record { proc = q; id = j } in Some a ≡ Some b
 same_name p q i j e f = let N : Type 0 = GoalName in
     ap (λ (z : ℕ). let a : N = record { proc = z; id = i } in Some a) e ∙ ap (λ (z : GoalId). let a : N = record { proc = q; id = z } in Some a) f

@@ -1,4 +1,4 @@
--- A text is the text of one list alone.
+-- A text is that of only one list.
 use Rattle.std.proofs.Common.{◌≡◌, ℕ, ℤ, ◌+◌, ◌*◌, ◌<◌, ◌^◌, List, [], ◌∷◌, ◌++◌, Some, length, get_or, map, decimal, refl, sym, ap, ◌∙◌, arith, length-append}
 use Rattle.std.proofs.lemmas.Fmt.{decimal_injective, signed_decimal_injective}
 use Rattle.std.specs.Fmt.{signed_decimal}
@@ -19,7 +19,7 @@ use Rattle.cert_text.proofs.Multipliers.{rising_from_multipliers}
 use Rattle.cert_text.proofs.Progress.{line_free, certificate_lines_are}
 use Rattle.cert_text.proofs.Walk.{run-certificate_lines}
 
--- The first two bytes of a text as one number.
+-- The first two bytes of a text as one number. Lines of different kinds differ in it.
 front_mark : List ℕ → ℕ
 front_mark bs = get_or bs 0 0 * 1000 + get_or bs 1 0
 
@@ -94,7 +94,6 @@ split_once x y m n j k e =
     ap (λ (z : ℕ). whole z m) (decimal_injective x y a b c.0)
     ∙ ap (λ (z : ℤ). whole y z) (signed_decimal_injective m n (below_half m j.number) (below_half n k.number) f)
 
--- The first byte of a line.
 initial : Line → ℕ
 initial (title v) = 99
 initial (goal n) = 103

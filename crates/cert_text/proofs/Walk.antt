@@ -1,4 +1,5 @@
--- The lines of a list of certificates lead from the start to the end of a reading, and no other lines do.
+-- The lines of a list of certificates lead from the start of reading to its end, and no other lines
+-- do.
 use Rattle.std.proofs.Common.{◌≡◌, ◌+◌, ◌<◌, ◌≤◌, Bool, true, false, cond, ◌||◌, ◌&&◌, IsTrue, List, [], ◌∷◌, ◌++◌, Option, Some, None, length, nat_lt, refl, sym, ap, ◌∙◌, subst, arith, append_assoc}
 use Rattle.std.proofs.lemmas.List.{append-nil}
 use Rattle.std.specs.List.{AllByRecursion}
@@ -17,8 +18,6 @@ use Rattle.cert_text.specs.Texts.{has_whole, have_whole, tree_lines, goals_lines
 use Rattle.cert_text.specs.internal.ReadStates.{Way, Open, Filled, complete, part, joined, fill, may_split, may_end, edition_of, State, start, between, inside, done, filled_state, next, advance, run}
 use Rattle.cert_text.proofs.Editions.{IsAllowed, passed, passed_twice, passed_same, allowed_first, allowed_second, splits, title_of, ends_in, begins_with}
 
--- Lines that are run one after another.
-
 pub run-append : (ks ls : List Line) (o : Option State) → run (ks ++ ls) o ≡ run ls (run ks o)
 run-append [] ls o = refl
 run-append (k ∷ ks) ls o = run-append ks ls (advance k o)
@@ -26,8 +25,6 @@ run-append (k ∷ ks) ls o = run-append ks ls (advance k o)
 pub run-None : (ls : List Line) → run ls None ≡ None
 run-None [] = refl
 run-None (l ∷ ls) = run-None ls
-
--- A tree is read up to its end.
 
 pub depth_positive : (t : Tree) → 1 ≤ depth t
 depth_positive (Tree.split t u) = omega arith
@@ -97,17 +94,13 @@ run_titled cs true s e =
     run-goals_lines cs none (last ∷ []) Lacking None s.growing s.each tt
     ∙ ap (λ (w : Bool). run (last ∷ []) (Some (between (passed Lacking w) cs (latest_of None cs)))) e
 
--- The lines of a writable list lead to its end.
 pub run-certificate_lines : (cs : List Certificate) → AreWritable cs → run (certificate_lines cs) (Some start) ≡ Some (done cs)
 run-certificate_lines cs w = run_titled cs (have_whole cs) w refl
 
--- Those of a text of version 2 before its end lead to some state.
 pub run-front_lines : (cs : List Certificate) → AreWritable cs → run (title versions.Two ∷ goals_lines cs) (Some start) ≡ Some (between (passed Lacking (have_whole cs)) cs (latest_of None cs))
 run-front_lines cs w =
     let none : List Certificate = [] in
     ap (λ (ls : List Line). run ls (Some (between Lacking none None))) (sym (append-nil (goals_lines cs))) ∙ run-goals_lines cs none [] Lacking None w.growing w.each tt
-
--- The lines that lead to a state.
 
 abbrev pub node_line : Node → Line
 node_line Question = split
@@ -138,7 +131,7 @@ read_lines (between e cs latest) = title (title_of e) ∷ goals_lines cs
 read_lines (inside e cs n os) = title (title_of e) ∷ (goals_lines cs ++ goal n ∷ open_lines os)
 read_lines (done cs) = certificate_lines cs
 
--- The edition says whether a whole variable was split.
+-- Whether the line is an integer split.
 
 abbrev pub splits_whole : Line → Bool
 splits_whole (title v) = false
@@ -149,7 +142,7 @@ splits_whole (farkas ms) = false
 splits_whole plain = false
 splits_whole last = false
 
--- One of the lines splits a whole variable.
+-- Whether one of the lines is an integer split.
 abbrev pub some_whole : List Line → Bool
 some_whole [] = false
 some_whole (l ∷ ls) = splits_whole l || some_whole ls
@@ -183,14 +176,12 @@ goals_whole : (cs : List Certificate) → some_whole (goals_lines cs) ≡ have_w
 goals_whole [] = refl
 goals_whole (c ∷ cs) = some_whole-append (tree_lines c.tree) (goals_lines cs) ∙ ap (λ (b : Bool). b || some_whole (goals_lines cs)) (tree_whole c.tree) ∙ ap (λ (b : Bool). has_whole c.tree || b) (goals_whole cs)
 
--- What the state says of splits is so of the lines that lead to it.
+-- The edition of a state agrees with the lines that lead to it.
 abbrev pub IsTold : State → Type 0
 IsTold start = Unit {0}
 IsTold (between e cs latest) = splits e ≡ some_whole (read_lines (between e cs latest))
 IsTold (inside e cs n os) = splits e ≡ some_whole (read_lines (inside e cs n os))
 IsTold (done cs) = Unit {0}
-
--- A step adds its line.
 
 goals_lines-append : (cs more : List Certificate) → goals_lines (cs ++ more) ≡ goals_lines cs ++ goals_lines more
 goals_lines-append [] more = refl
@@ -225,7 +216,6 @@ pushed_lines e f cs n os k same =
     ap (λ (v : Version). title v ∷ (goals_lines cs ++ goal n ∷ (open_lines os ++ node_line k ∷ []))) same
     ∙ ap (λ (ls : List Line). title (title_of e) ∷ ls) (sym (append_assoc (goals_lines cs) (goal n ∷ open_lines os) (node_line k ∷ [])))
 
--- A text that may end has the title of its list.
 ended_title : (e : Edition) (w : Bool) → may_end e ≡ true → splits e ≡ w → cond w versions.Two versions.One ≡ title_of e
 ended_title One true m s = absurd (cc)
 ended_title One false m s = refl
@@ -277,7 +267,7 @@ next-lines (inside d cs n os) plain s' told e =
     subst P f (leaf_lines d cs n os Tree.plain plain refl)
 next-lines s l s' told e = absurd (cc)
 
--- A state with this edition, if it has one, was reached by lines of which one splits a whole variable or none.
+-- The edition of a state agrees with whether the lines that lead to it have an integer split.
 abbrev IsEditionOf : Bool → State → Type 0
 IsEditionOf w start = Unit {0}
 IsEditionOf w (between e cs latest) = splits e ≡ w
@@ -342,14 +332,13 @@ next-told s l s' told e =
     told_from_edition s' (some_whole (read_lines s) || splits_whole l) (next_edition s l s' told e)
     (sym (some_whole_push (read_lines s) l) ∙ ap some_whole (sym (next-lines s l s' told e)))
 
--- A state that lines lead to goes on to the end of a writable list.
+-- Each state continues to the end of a list that has a text.
 
--- The numbers of a node are within their bounds.
 abbrev pub IsNode : Node → Type 0
 IsNode Question = Unit {0}
 IsNode (Whole x m) = IsWholeSplit x m
 
--- The certificates of an open tree stay within the depth.
+-- The certificates of an open tree stay within the depth limit.
 abbrev pub IsOpen : Open → Type 0
 IsOpen [] = Unit {0}
 IsOpen (Way.first k ∷ os) = (length os + 2 ≤ 1000) × IsNode k × IsOpen os
@@ -399,7 +388,6 @@ fill-open (Way.second k y ∷ os) t o h room =
     let room' : depth (joined k y t) + length os ≤ 1000 = omega arith in
     fill-open os (joined k y t) o.3 (joined_numbers k y t o.1 o.2 h) room'
 
--- A leaf fits at an open place.
 leaf_fits : (os : Open) → IsOpen os → 1 + length os ≤ 1000
 leaf_fits [] o = let none : Open = [] in let z : length none ≡ 0 = refl in omega arith
 leaf_fits (Way.first k ∷ os) o = let one : Open = Way.first k ∷ os in let z : length one ≡ length os + 1 = omega arith in let d = o.0 in omega arith
@@ -409,7 +397,6 @@ filled_sound : (e : Edition) (cs : List Certificate) (n : GoalName) (f : Filled)
 filled_sound e cs n (complete t) w g m f = let c : Certificate = record { name = n; tree = t } in (writable_push cs c w g (record { name = m; numbers = f.0; depth = f.1 }), latest_of_push None cs c)
 filled_sound e cs n (part os) w g m f = (w, g, m, f)
 
--- One node more is on the way.
 one_more : (os : Open) (k : Node) → nat_lt (length os) 999 ≡ true → IsNode k → IsOpen os → IsOpen (Way.first k ∷ os)
 one_more os k less i o = let room : length os + 2 ≤ 1000 = grind arith in (room, i, o)
 
@@ -449,7 +436,7 @@ next-sound (inside d cs n os) plain s' sound ok e =
     subst P f (filled_sound d cs n (fill os Tree.plain) sound.0 sound.1 sound.2 (fill-open os Tree.plain sound.3 tt (leaf_fits os sound.3)))
 next-sound s l s' sound ok e = absurd (cc)
 
--- What holds of a state that lines lead to.
+-- The properties of a state that lines lead to.
 pub record IsReached (s : State) (before ls : List Line) : Type 0 where
   pub lines : read_lines s ≡ before ++ ls
   pub sound : IsSound s
@@ -472,9 +459,9 @@ reached_by (l ∷ ls) (Some r) s before ok e start' =
 pub reached : (ls : List Line) (s : State) → AllByRecursion IsLine ls → run ls (Some start) ≡ Some s → IsReached s [] ls
 reached ls s ok e = reached_by ls (Some start) s [] ok e (λ s' f. let g : start ≡ s' = cc in let P : State → Type 0 = λ s''. IsReached s'' [] [] in subst P g (record { lines = refl; sound = tt; told = tt }))
 
--- Each state goes on to an end, or before the end of a text of version 2.
+-- Each state continues to an end, or to a place before the end of a text of version 2.
 
--- What goes on from a tree with its open place filled.
+-- A state after a filled open place continues.
 abbrev GoesOn : Edition → State → Type 0
 GoesOn e s = (more : List Line) × (cs : List Certificate) × (latest : Option GoalName) × AllByRecursion IsLine more × (run more (Some s) ≡ Some (between e cs latest))
 
@@ -487,11 +474,10 @@ AllByRecursion-append : {X : Type 0} (P : X → Type 0) (xs ys : List X) → All
 AllByRecursion-append P [] ys a b = b
 AllByRecursion-append P (x ∷ xs) ys a b = (a.0, AllByRecursion-append P xs ys a.1 b)
 
--- Lines that lead to the end of a list are those of the list, which is writable.
 pub whole_list : (ls : List Line) (cs : List Certificate) → AllByRecursion IsLine ls → run ls (Some start) ≡ Some (done cs) → AreWritable cs × (certificate_lines cs ≡ ls)
 whole_list ls cs ok e = let r = reached ls (done cs) ok e in (r.sound, r.lines)
 
--- The lines are the first ones of a list, or come before the end of a text of version 2.
+-- The lines are the first ones of a list, or those of a text of version 2 before its end.
 pub data AreBegun (ls : List Line) : Type 0 where
   of_list : (cs : List Certificate) (more : List Line) → AreWritable cs → certificate_lines cs ≡ ls ++ more → AreBegun ls
   of_front : (cs : List Certificate) (more : List Line) → AreWritable cs → title versions.Two ∷ goals_lines cs ≡ ls ++ more → AreBegun ls
@@ -508,7 +494,6 @@ begun_between ls more One cs latest ok also e =
 begun_between ls more Lacking cs latest ok also e = let r = reached (ls ++ more) (between Lacking cs latest) (AllByRecursion-append IsLine ls more ok also) e in AreBegun.of_front cs more r.sound.0 r.lines
 begun_between ls more Two cs latest ok also e = let r = reached (ls ++ more) (between Two cs latest) (AllByRecursion-append IsLine ls more ok also) e in AreBegun.of_front cs more r.sound.0 r.lines
 
--- Lines that lead to a state are the first ones of a text.
 pub first_lines : (ls : List Line) (s : State) → AllByRecursion IsLine ls → run ls (Some start) ≡ Some s → AreBegun ls
 first_lines ls start ok e =
     let none : List Certificate = [] in
@@ -519,7 +504,6 @@ first_lines ls (inside d cs n os) ok e =
     begun_between ls (plain ∷ g.0) d g.1 g.2 ok (tt, g.3) (run-append ls (plain ∷ g.0) (Some start) ∙ ap (λ (o : Option State). run (plain ∷ g.0) o) e ∙ g.4)
 first_lines ls (done cs) ok e = begun_by ls [] cs ok tt (ap (λ (ks : List Line). run ks (Some start)) (append-nil ls) ∙ e)
 
--- A line that isn't allowed behind lines goes on to no state.
 pub no_state : (ls : List Line) (s : State) (l : Line) (more ks : List Line) (t : State) → run ls (Some start) ≡ Some s → next s l ≡ None
     → run ks (Some start) ≡ Some t → ks ≡ ls ++ l ∷ more → ⊥
 no_state ls s l more ks t e n g f =
@@ -527,7 +511,6 @@ no_state ls s l more ks t e n g f =
     let k : run (ls ++ l ∷ more) (Some start) ≡ None = run-append ls (l ∷ more) (Some start) ∙ ap (λ (o : Option State). run (l ∷ more) o) e ∙ ap (λ (o : Option State). run more o) n ∙ run-None more in
     let z : None ≡ Some t = sym k ∙ h in absurd (cc)
 
--- Lines that lead elsewhere than to an end are not all of a writable list.
 pub end_of : (ls : List Line) (s : State) (cs : List Certificate) → run ls (Some start) ≡ Some s → AreWritable cs → certificate_lines cs ≡ ls → s ≡ done cs
 end_of ls s cs e w f =
     let g : Some s ≡ Some (done cs) = sym e ∙ ap (λ (ks : List Line). run ks (Some start)) (sym f) ∙ run-certificate_lines cs w in cc

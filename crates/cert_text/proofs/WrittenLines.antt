@@ -1,4 +1,4 @@
--- Lines that are written one behind another.
+-- Lines that are written one after another.
 use Prim.Native.Nat.{suc, zero}
 use Rattle.std.proofs.Common.{◌≡◌, ℕ, ℤ, ◌+◌, ◌<◌, Bool, true, false, cond, ◌||◌, List, [], ◌∷◌, ◌++◌, Box, Vec, Global, decimal, length, get_or, take, map, refl, sym, ap, ◌∙◌, subst, arith, append_assoc, add-one}
 use Rattle.std.proofs.lemmas.List.{append-nil}
@@ -14,7 +14,6 @@ use Rattle.cert_text.specs.Lines.{Line, title, goal, whole, last, line_text, mul
 use Rattle.cert_text.specs.Texts.{closed, has_whole, have_whole, version, tree_lines, goals_lines}
 use Rattle.cert_text.proofs.Multipliers.{multipliers_text_push}
 
--- The bytes of lines.
 abbrev pub lines_text : List Line → List ℕ
 lines_text ls = closed (map line_text ls)
 
@@ -37,7 +36,6 @@ goals_lines_last (d ∷ cs) c =
     ap (λ (ls : List Line). goal (certificate_of d).name ∷ (tree_lines (certificate_of d).tree ++ ls)) (goals_lines_last cs c)
     ∙ ap (λ (ls : List Line). goal (certificate_of d).name ∷ ls) (sym (append_assoc (tree_lines (certificate_of d).tree) (goals_lines (certificates_of cs)) (goal (certificate_of c).name ∷ tree_lines (certificate_of c).tree)))
 
--- One goal more was written.
 pub goals_text_more : (cs : List GoalCert) (i : ℕ) (d : GoalCert) (old before head new : List ℕ) → i < length cs
     → before ≡ old ++ lines_text (goals_lines (certificates_of (take i cs)))
     → head ≡ before ++ lines_text (goal (certificate_of (get_or cs i d)).name ∷ [])
@@ -65,7 +63,6 @@ goals_written cs i c old before head new same l e f g =
     let Q : GoalCert → Type 0 = λ d. new ≡ head ++ lines_text (tree_lines (tree_of d.tree)) in
     goals_text_more cs i c old before head new l e (subst P same f) (subst Q same g)
 
--- The title, goals and the end were written.
 pub all_written : (v : Version) (ls : List Line) (one two three : List ℕ) → one ≡ lines_text (title v ∷ []) → two ≡ one ++ lines_text ls → three ≡ two ++ (line_text last ++ 10 ∷ [])
     → three ≡ lines_text (title v ∷ (ls ++ last ∷ []))
 all_written v ls one two three e f g =
@@ -84,7 +81,6 @@ farkas_tree ms = ap tree_of (sym (T.TheVariants.rolls-Farkas ms)) ∙ fold-roll-
 whole_tree : (x : ℕ) (m : ℤ) (a b : Box T.Tree Global) → tree_of (T.TheVariants.Whole x m a b) ≡ Tree.whole x m (tree_of a.value) (tree_of b.value)
 whole_tree x m a b = ap tree_of (sym (T.TheVariants.rolls-Whole x m a b)) ∙ fold-roll-Tree Tree tree_layer (Tree-F.Whole x m a b) ∙ refl
 
--- A split of a whole variable was written with its two trees.
 pub whole_written : (t : T.Tree) (x : ℕ) (m : ℤ) (most more : Box T.Tree Global) (one two : T.Tree) (old a b new : List ℕ) → t ≡ T.TheVariants.Whole x m most more → one ≡ most.value → two ≡ more.value
     → a ≡ old ++ lines_text (whole x m ∷ []) → b ≡ a ++ lines_text (tree_lines (tree_of one)) → new ≡ b ++ lines_text (tree_lines (tree_of two))
     → new ≡ old ++ lines_text (tree_lines (tree_of t))
@@ -101,7 +97,6 @@ whole_written t x m most more one two old a b new e y n f g h =
     ∙ ap (λ (bs : List ℕ). old ++ (head ++ bs)) (sym (lines_text-append (tree_lines (tree_of one)) (tree_lines (tree_of two))))
     ∙ ap (λ (bs : List ℕ). old ++ bs) (sym (lines_text-append (whole x m ∷ []) (tree_lines (tree_of one) ++ tree_lines (tree_of two)))))
 
--- Whether a tree splits a whole variable, from its parts.
 pub split_whole : (t : T.Tree) (a b : Box T.Tree Global) (one two : T.Tree) → t ≡ T.TheVariants.Split a b → one ≡ a.value → two ≡ b.value → has_whole (tree_of t) ≡ (has_whole (tree_of one) || has_whole (tree_of two))
 split_whole t a b one two e y n =
     ap has_whole (ap tree_of e ∙ split_tree a b) ∙ ap (λ (u : T.Tree). has_whole (tree_of u) || has_whole (tree_of b.value)) (sym y) ∙ ap (λ (u : T.Tree). has_whole (tree_of one) || has_whole (tree_of u)) (sym n)
@@ -111,8 +106,6 @@ farkas_whole t ms e = ap has_whole (ap tree_of e ∙ farkas_tree ms)
 
 pub whole_whole : (t : T.Tree) (x : ℕ) (m : ℤ) (a b : Box T.Tree Global) → t ≡ T.TheVariants.Whole x m a b → has_whole (tree_of t) ≡ true
 whole_whole t x m a b e = ap has_whole (ap tree_of e ∙ whole_tree x m a b)
-
--- Whether one of the first certificates splits one.
 
 have_whole_last : (cs : List GoalCert) (c : GoalCert) → have_whole (certificates_of cs) ≡ false → has_whole (tree_of c.tree) ≡ false → have_whole (certificates_of (cs ++ c ∷ [])) ≡ false
 have_whole_last [] c none here = ap (λ (b : Bool). b || false) here
@@ -147,7 +140,6 @@ version_two cs i c same l here =
 pub version_one : (cs : List GoalCert) → have_whole (certificates_of cs) ≡ false → versions.One ≡ version (certificates_of cs)
 version_one cs none = ap (λ (b : Bool). cond b versions.Two versions.One) (sym none)
 
--- A question was written with its two trees.
 pub split_written : (t : T.Tree) (holds fails : Box T.Tree Global) (one two : T.Tree) (old a b new : List ℕ) → t ≡ T.TheVariants.Split holds fails → one ≡ holds.value → two ≡ fails.value
     → a ≡ old ++ 115 ∷ 10 ∷ [] → b ≡ a ++ lines_text (tree_lines (tree_of one)) → new ≡ b ++ lines_text (tree_lines (tree_of two))
     → new ≡ old ++ lines_text (tree_lines (tree_of t))
@@ -162,7 +154,6 @@ split_written t holds fails one two old a b new e y n f g h =
     ∙ append_assoc old (115 ∷ 10 ∷ []) (ys ++ ns)
     ∙ ap (λ (bs : List ℕ). old ++ 115 ∷ 10 ∷ bs) (sym (lines_text-append (tree_lines (tree_of one)) (tree_lines (tree_of two)))))
 
--- Multipliers were written.
 pub farkas_written : (t : T.Tree) (v : Vec (ℕ × ℕ) Global) (ms : List (ℕ × ℕ)) (old a b new : List ℕ) → t ≡ T.TheVariants.Farkas v → ms ≡ v.items → a ≡ old ++ 102 ∷ [] → b ≡ a ++ multipliers_text ms → new ≡ b ++ 10 ∷ []
     → new ≡ old ++ lines_text (tree_lines (tree_of t))
 farkas_written t v ms old a b new e m f g h =
@@ -172,7 +163,6 @@ farkas_written t v ms old a b new e m f g h =
     ∙ append_assoc (old ++ 102 ∷ []) (multipliers_text ms) (10 ∷ [])
     ∙ append_assoc old (102 ∷ []) (multipliers_text ms ++ 10 ∷ []))
 
--- One multiplier more was written.
 pub multiplier_written : (ms : List (ℕ × ℕ)) (i : ℕ) (d : ℕ × ℕ) (old before a b e new : List ℕ) → i < length ms → before ≡ old ++ multipliers_text (take i ms)
     → a ≡ before ++ 32 ∷ [] → b ≡ a ++ decimal (get_or ms i d).0 → e ≡ b ++ 58 ∷ [] → new ≡ e ++ decimal (get_or ms i d).1
     → new ≡ old ++ multipliers_text (take (i + 1) ms)
