@@ -1,4 +1,4 @@
--- The texts of worked answers, computed.
+-- Texts of worked answers, computed.
 use Rattle.std.proofs.Common.{◌≡◌, ℕ, [], ◌∷◌, true, false, codes, refl}
 use Rattle.std.specs.Fmt.{digits}
 use Rattle.std.specs.Prelude.{negsuc, pos}
@@ -33,7 +33,7 @@ no_file = refl
 one_variable : state_text coin (0 ∷ []) (Truth false ∷ []) ≡ codes "b = false"
 one_variable = refl
 
--- The second binder is shown and keeps its number; the first is 0.
+-- The second binder is shown and keeps its number; the first one is 0.
 second_binder : state_text loop (0 ∷ 1 ∷ []) (Num (whole 0) ∷ Num (whole 0) ∷ Truth true ∷ Truth true ∷ Num (whole 0) ∷ Truth true ∷ []) ≡ codes "init_c = 0, c = 0, cont'2 = true"
 unfolding digits ratio gcd gcd_steps
 second_binder = refl

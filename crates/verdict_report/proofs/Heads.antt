@@ -1,4 +1,5 @@
--- The procedures of a file that meets the rules, and how many variables their heads declare.
+-- The procedures of a file that satisfies the rules, and the number of variables that their heads
+-- declare.
 use Rattle.std.proofs.Common.{◌≡◌, ℕ, ◌+◌, ◌-◌, ◌<◌, ◌≤◌, ap, ap₂, sym, subst, ◌∙◌, arith, map, List, [], ◌∷◌, ◌++◌, length, get_or, take, drop, min}
 use Prim.Native.Nat.{zero, suc}
 use Rattle.std.proofs.lemmas.List.{length-append, length-drop, length-map, length-take}
@@ -8,7 +9,6 @@ use Rattle.heyvl_acts.specs.Rules.{Each, IsCounted, MeetsAllRules, MeetsRules}
 use Rattle.heyvl_acts.specs.declared.typed_trees.TProc.{TProc}
 use Rattle.heyvl_acts.specs.declared.typed_trees.Typed.{Typed}
 
--- The inputs and outputs are as many as it is said.
 pub head_length : (p : TProc) → IsCounted p → length ((procedure_of p).inputs ++ (procedure_of p).outputs) ≡ p.inputs + p.outputs
 head_length p h =
     length-append (procedure_of p).inputs (procedure_of p).outputs

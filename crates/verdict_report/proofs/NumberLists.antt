@@ -3,7 +3,6 @@ use Rattle.std.proofs.Common.{◌≡◌, ℕ, ◌+◌, ◌-◌, ◌<◌, ap, sym
 use Rattle.heyvl_acts.specs.Rules.{counted}
 use Prim.Native.Nat.{suc}
 
--- The first of the numbers that are left joins those before it.
 pub next_number : (before after : List ℕ) (k n : ℕ) → k < n → after ≡ before ++ k ∷ [] → after ++ counted (k + 1) (n - (k + 1)) ≡ before ++ counted k (n - k)
 next_number before after k n lt h =
     ap (λ l. l ++ counted (k + 1) (n - (k + 1))) h

@@ -1,37 +1,41 @@
--- Why nothing is known of a goal, as a report shows it. The texts are this project's own.
+-- The causes for which a goal is not decided, as a report shows them. This project's own.
 use Rattle.heyvl_num.specs.Rational.{Rational}
 use Rattle.heylo_formula.specs.declared.values.Val.{Val}
 use Rattle.goal_answers.specs.declared.causes.Broken.{Broken}
 use Rattle.goal_answers.specs.declared.causes.Cause.{Cause}
-use Rattle.goal_answers.specs.declared.causes.Cause.TheVariants.{Depth, Nodes, Nonlinear, Cells, Rows, Bits, Fraction}
+use Rattle.goal_answers.specs.declared.causes.Cause.TheVariants.{Depth, Nodes, Nonlinear, Cells}
+use Rattle.goal_answers.specs.declared.causes.Cause.TheVariants.{Rows, Bits, Fraction}
 use Rattle.std.specs.Prelude.{Bool, List, [], codes, decimal, false, true, ◌++◌, ◌∷◌, ℕ}
 use Rattle.number_texts.specs.ValueTexts.{fraction_text, place_text}
 use Rattle.verdict_report.specs.Settings.{Names, settings_text, variable_text}
 
--- The bracket of the low end, which tells whether it belongs to the interval.
+-- The bracket of the low end: `[` if it belongs to the interval, otherwise `(`.
 abbrev pub low_mark : Bool → List ℕ
 low_mark true = codes "["
 low_mark false = codes "("
 
--- The bracket of the high end, which tells whether it belongs to the interval.
+-- The bracket of the high end: `]` if it belongs to the interval, otherwise `)`.
 abbrev pub high_mark : Bool → List ℕ
 high_mark true = codes "]"
 high_mark false = codes ")"
 
--- The interval between two ends, each of which may belong to it.
+-- The interval between two ends, for example `[1/3, 1/2)`.
 abbrev pub interval_text : Bool → Rational → Rational → Bool → List ℕ
-interval_text low_in low high high_in = low_mark low_in ++ fraction_text low ++ codes ", " ++ fraction_text high ++ high_mark high_in
+interval_text low_in low high high_in =
+    low_mark low_in ++ fraction_text low ++ codes ", " ++ fraction_text high ++ high_mark high_in
 
--- The values that were chosen before, where there are some.
+-- The values that were chosen before, if there are any.
 abbrev pub earlier_text : Names → List (ℕ × Val) → List ℕ
 earlier_text n [] = []
 earlier_text n (p ∷ ps) = codes " where " ++ settings_text n (p ∷ ps)
 
--- A fraction that breaks the goal: the variable, the interval of its values, and the values that were chosen before.
+-- A variable that has no integer in the interval of its values, this interval, and the values that
+-- were chosen before.
 abbrev pub broken_text : Names → Broken → List ℕ
-broken_text n b = codes "fraction " ++ variable_text n b.var ++ codes " in " ++ interval_text b.low_in b.low b.high b.high_in ++ earlier_text n b.earlier.items
+broken_text n b = codes "fraction " ++ variable_text n b.var ++ codes " in "
+    ++ interval_text b.low_in b.low b.high b.high_in ++ earlier_text n b.earlier.items
 
--- So many variables were eliminated.
+-- The number of variables that were eliminated before there were more rows than the limit allows.
 abbrev pub step_text : ℕ → List ℕ
 step_text step = codes "rows at step " ++ decimal step
 

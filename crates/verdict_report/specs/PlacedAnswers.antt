@@ -1,8 +1,10 @@
--- What a report asks of the answers that it shows.
+-- What a report requires of its answers: each place is in the text, and each procedure is in the
+-- file. This project's own.
 use Rattle.heyvl_acts.specs.Rules.{Each, MeetsAllRules}
 use Rattle.heyvl_acts.specs.declared.typed_trees.Typed.{Typed}
 use Rattle.goal_answers.specs.declared.causes.Cause.{Cause}
-use Rattle.goal_answers.specs.declared.causes.Cause.TheVariants.{Depth, Nodes, Nonlinear, Cells, Rows, Bits, Fraction}
+use Rattle.goal_answers.specs.declared.causes.Cause.TheVariants.{Depth, Nodes, Nonlinear, Cells}
+use Rattle.goal_answers.specs.declared.causes.Cause.TheVariants.{Rows, Bits, Fraction}
 use Rattle.proc_contracts.specs.declared.reasons.WhyNot.{WhyNot}
 use Rattle.proc_contracts.specs.declared.reasons.WhyNot.TheVariants as why
 use Rattle.std.specs.Prelude.{List, length, ◌<◌, ◌^◌, ◌≡◌, ◌≤◌, ℕ}
@@ -13,8 +15,7 @@ use Rattle.verdict_report.specs.declared.answers.RankVerdict.TheVariants as rank
 use Rattle.verdict_report.specs.declared.answers.Verdict.{Verdict}
 use Rattle.verdict_report.specs.declared.answers.Verdict.TheVariants as verdict
 
--- The places that a cause, a reason, a verdict and an answer name are in a text of so many bytes, and so are the procedures
--- among so many.
+-- The place in a cause is within a text of `bytes` bytes.
 abbrev pub IsCausePlaced : ℕ → Cause → Type 0
 IsCausePlaced bytes Depth = Unit {0}
 IsCausePlaced bytes Nodes = Unit {0}
@@ -24,14 +25,14 @@ IsCausePlaced bytes (Rows step count) = Unit {0}
 IsCausePlaced bytes Bits = Unit {0}
 IsCausePlaced bytes (Fraction b) = Unit {0}
 
--- The place that a reason names is in a text of so many bytes.
+-- The place in a reason is within a text of `bytes` bytes.
 abbrev pub IsReasonPlaced : ℕ → WhyNot → Type 0
 IsReasonPlaced bytes why.NoBody = Unit {0}
 IsReasonPlaced bytes why.NoWlp = Unit {0}
 IsReasonPlaced bytes why.Quantifier = Unit {0}
 IsReasonPlaced bytes (why.Statement span) = span.from ≤ bytes
 
--- The place that a verdict names is in a text of so many bytes, and its procedure is one of so many.
+-- The place in a verdict is within a text of `bytes` bytes, and its procedure is one of `procs`.
 abbrev pub IsVerdictPlaced : ℕ → ℕ → Verdict → Type 0
 IsVerdictPlaced bytes procs verdict.Verified = Unit {0}
 IsVerdictPlaced bytes procs (verdict.Valid reason) = IsReasonPlaced bytes reason
@@ -41,23 +42,24 @@ IsVerdictPlaced bytes procs (verdict.Unknown id cause) = IsCausePlaced bytes cau
 IsVerdictPlaced bytes procs verdict.NoBody = Unit {0}
 IsVerdictPlaced bytes procs (verdict.Unchecked id miss) = Unit {0}
 
--- The place that is named of a ranking is in a text of so many bytes.
+-- The place in the verdict on a ranking is within a text of `bytes` bytes.
 abbrev pub IsRankPlaced : ℕ → RankVerdict → Type 0
 IsRankPlaced bytes rank.Ranked = Unit {0}
 IsRankPlaced bytes (rank.NotRanked s) = Unit {0}
 IsRankPlaced bytes (rank.Unknown cause) = IsCausePlaced bytes cause
 IsRankPlaced bytes (rank.Unchecked miss) = Unit {0}
 
--- The place that the answer to a loop's ranking names is in a text of so many bytes.
+-- The place in the answer on a loop is within a text of `bytes` bytes.
 abbrev pub IsLoopPlaced : ℕ → LoopAnswer → Type 0
 IsLoopPlaced bytes l = IsRankPlaced bytes l.rank
 
--- The places and the procedure that an answer names are there: those of its verdict, and of its loops.
+-- The places of an answer are within a text of `bytes` bytes, and its procedure is one of `procs`.
 pub record IsAnswerPlaced (bytes procs : ℕ) (a : Answer) : Type 0 where
   pub verdict : IsVerdictPlaced bytes procs a.verdict
   pub loops : Each (IsLoopPlaced bytes) a.loops.items
 
--- The typed tree meets the static rules, there is one answer for each procedure, and what the answers name is there.
+-- The typed tree satisfies the static rules, each procedure has one answer, and the places and
+-- procedures of the answers exist.
 pub record CanReport (bytes : List ℕ) (typed : Typed) (answers : List Answer) : Type 0 where
   pub short : length bytes < 2 ^ 31
   pub rules : MeetsAllRules typed

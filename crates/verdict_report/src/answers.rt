@@ -1,58 +1,60 @@
-//! Answers.
+//! Answers on procedures.
 
 use goal_answers::{Cause, Miss};
 use heylo_formula::{GoalId, Val};
 use heyvl_places::Name;
 use proc_contracts::WhyNot;
 
-/// What is answered of a procedure.
+/// The answer on a procedure.
 #[derive(Drop)]
 pub struct Answer {
     /// The procedure's name.
     pub name: Name,
-    /// What is said of its bound.
+    /// The verdict on its bound.
     pub verdict: Verdict,
-    /// What is said of each of its loops that has a ranking, in the order of the text.
+    /// The verdicts on its loops with a ranking, in the order of the text.
     pub loops: Vec<LoopAnswer>,
 }
 
-/// What is said of a procedure's bound.
+/// The verdict on a procedure's bound.
 #[derive(Drop)]
 pub enum Verdict {
-    /// Its goals and those of all that it reaches are proved, and all of these are programs: the bound holds for their runs.
+    /// The bound holds over all runs: its goals and those of all procedures that it reaches are
+    /// proved, and all of these procedures are programs.
     Verified,
-    /// Its goals are proved, but it is no program, for this reason.
+    /// The goals of the bound are proved, but the procedure is no program, for this reason.
     Valid(WhyNot),
-    /// Its goals are proved, but this procedure, which it reaches, is no program or has a goal that isn't proved.
+    /// The goals of the bound are proved, but this procedure, which is reached, is no program or
+    /// has a goal that is not proved.
     Conditional(u32),
-    /// The goal is false in this state: a value for each variable of the goal.
+    /// The goal is false in this state, which has a value for each variable of the goal.
     NotVerified(GoalId, Vec<Val>),
-    /// Nothing is known of the goal, for this cause.
+    /// The goal is not decided, for this cause.
     Unknown(GoalId, Cause),
-    /// It has no body.
+    /// The procedure has no body.
     NoBody,
-    /// The goal isn't proved by the certificates.
+    /// The certificates do not prove the goal.
     Unchecked(GoalId, Miss),
 }
 
-/// What is said of a loop's ranking.
+/// The answer on a loop with a ranking.
 #[derive(Drop)]
 pub struct LoopAnswer {
     /// The loop's number in its procedure, from 1.
     pub number: u32,
-    /// What is said of the ranking.
+    /// The verdict on its ranking.
     pub rank: RankVerdict,
 }
 
-/// What is said of a ranking.
+/// The verdict on a ranking.
 #[derive(Drop)]
 pub enum RankVerdict {
-    /// Its goal is proved.
+    /// The goal of the ranking is proved.
     Ranked,
-    /// Its goal is false in this state: a value for each variable of the goal.
+    /// The goal is false in this state, which has a value for each variable of the goal.
     NotRanked(Vec<Val>),
-    /// Nothing is known of its goal, for this cause.
+    /// The goal is not decided, for this cause.
     Unknown(Cause),
-    /// Its goal isn't proved by the certificates.
+    /// The certificates do not prove the goal.
     Unchecked(Miss),
 }

@@ -1,7 +1,8 @@
 //! Causes in a report.
 
 ghost use Rattle.std.specs.Prelude.{◌≡◌, ◌++◌, ◌<◌, ◌^◌, OnOk, length};
-ghost use Rattle.verdict_report.specs.Causes.{broken_text, cause_text, earlier_text, interval_text, step_text};
+ghost use Rattle.verdict_report.specs.Causes.{broken_text, cause_text, earlier_text, interval_text};
+ghost use Rattle.verdict_report.specs.Causes.{step_text};
 ghost use Rattle.verdict_report.specs.PlacedAnswers.{IsCausePlaced};
 ghost use Rattle.verdict_report.specs.Settings.{named_by};
 
@@ -12,9 +13,10 @@ use heyvl_places::Name;
 use number_texts::{write_fraction, write_number, write_place};
 use std::alloc::AllocError;
 
-/// Puts an interval behind the text.
+/// Appends an interval.
 fn write_interval(text: &mut Vec<u8>, broken: &Broken) -> Result<(), AllocError>
-    ensures { OnOk result (text.new.items ≡ text.old.items ++ interval_text broken.now.low_in broken.now.low broken.now.high broken.now.high_in) }
+    ensures { OnOk result (text.new.items ≡ text.old.items
+        ++ interval_text broken.now.low_in broken.now.low broken.now.high broken.now.high_in) }
 {
     text.push(if broken.low_in { b'[' } else { b'(' })?;
     write_fraction(text, broken.low)?;
@@ -23,14 +25,15 @@ fn write_interval(text: &mut Vec<u8>, broken: &Broken) -> Result<(), AllocError>
     Ok(text.push(if broken.high_in { b']' } else { b')' })?)
 }
 
-/// Puts the values that were chosen before behind the text, where there are some.
+/// Appends the values that were chosen before, if there are any.
 fn write_earlier(
     text: &mut Vec<u8>,
     names: &[Name],
     own: u32,
     earlier: &[(u32, Val)],
 ) -> Result<(), AllocError>
-    ensures { OnOk result (text.new.items ≡ text.old.items ++ earlier_text (named_by names.now own) earlier.now) }
+    ensures { OnOk result (text.new.items ≡ text.old.items
+        ++ earlier_text (named_by names.now own) earlier.now) }
 {
     if earlier.is_empty() {
         Ok(())
@@ -40,14 +43,15 @@ fn write_earlier(
     }
 }
 
-/// Puts behind the text which variable has no whole number in its interval.
+/// Appends the variable that has no integer in its interval, with this interval.
 fn write_broken(
     text: &mut Vec<u8>,
     names: &[Name],
     own: u32,
     broken: &Broken,
 ) -> Result<(), AllocError>
-    ensures { OnOk result (text.new.items ≡ text.old.items ++ broken_text (named_by names.now own) broken.now) }
+    ensures { OnOk result (text.new.items ≡ text.old.items
+        ++ broken_text (named_by names.now own) broken.now) }
 {
     text.extend_from_slice(b"fraction ")?;
     write_variable(text, names, own, broken.var as usize)?;
@@ -56,7 +60,7 @@ fn write_broken(
     write_earlier(text, names, own, &broken.earlier)
 }
 
-/// Puts behind the text at which step there were too many rows.
+/// Appends the step at which there were more rows than the limit allows.
 fn write_step(text: &mut Vec<u8>, step: u32) -> Result<(), AllocError>
     ensures { OnOk result (text.new.items ≡ text.old.items ++ step_text step) }
 {
@@ -65,9 +69,10 @@ fn write_step(text: &mut Vec<u8>, step: u32) -> Result<(), AllocError>
     Ok(())
 }
 
-/// Puts behind the text why nothing is known of a goal, of a file with these bytes: a limit that was met, the place of a product of two
-/// variables, or the variable that has no whole number in its interval. `names` has the names of the goal's variables, by number; those from
-/// `own` on were binders. Want of memory is the one error.
+/// Appends the cause for which a goal of a file with these bytes is not decided: a limit that is
+/// exceeded, the place of a product of two variables, or the variable that has no integer in its
+/// interval. `names` has the names of the goal's variables, by number; variables from `own` on were
+/// binders.
 pub fn write_cause(
     text: &mut Vec<u8>,
     bytes: &[u8],
@@ -77,7 +82,8 @@ pub fn write_cause(
 ) -> Result<(), AllocError>
     requires placed { IsCausePlaced (length bytes.now) cause.now }
     requires short { length bytes.now < 2 ^ 31 }
-    ensures { OnOk result (text.new.items ≡ text.old.items ++ cause_text bytes.now (named_by names.now own) cause.now) }
+    ensures { OnOk result (text.new.items ≡ text.old.items
+        ++ cause_text bytes.now (named_by names.now own) cause.now) }
 {
     match cause {
         Cause::Depth => Ok(text.extend_from_slice(b"depth")?),

@@ -1,4 +1,4 @@
-//! The names of the variables of a goal that was made.
+//! The names of the variables of a goal.
 
 ghost use Rattle.std.specs.Prelude.{◌≡◌};
 ghost use Rattle.verdict_report.specs.GoalNames.{is_same, names_of, names_of_made};
@@ -8,7 +8,7 @@ use goal_answers::NamedGoal;
 use heylo_formula::{GoalId, Made};
 use heyvl_places::Name;
 
-/// Whether two are the same goal of a procedure.
+/// Returns whether `first` and `second` are the same goal of a procedure.
 fn is_same(first: GoalId, second: GoalId) -> bool
     ensures { result ≡ is_same first second }
 {
@@ -22,7 +22,8 @@ fn is_same(first: GoalId, second: GoalId) -> bool
     }
 }
 
-/// The names of the variables of what was made, by number, and how many of the first weren't binders; none where there is no goal.
+/// Returns the names of the variables of a goal, by number, and the number of those that were no
+/// binders; these come first. If there is no goal, there are no names.
 pub fn names_of_made(made: &Made) -> (&[Name], u32)
     ensures { named_by result.0.now result.1 ≡ names_of_made made.now }
 {
@@ -32,7 +33,8 @@ pub fn names_of_made(made: &Made) -> (&[Name], u32)
     }
 }
 
-/// The names of the variables of the procedure's goal among those that were made, and how many of the first weren't binders.
+/// Returns the names of the variables of the goal `id` of the procedure `proc`, if it is in `made`,
+/// and the number of those that were no binders.
 pub(crate) fn names_of(made: &[NamedGoal], proc: u32, id: GoalId) -> (&[Name], u32)
     ensures { named_by result.0.now result.1 ≡ names_of proc id made.now }
 {

@@ -1,4 +1,6 @@
-//! What is answered of the procedures of a file, and the text of the answers.
+//! The answers on the procedures of a file, and the text of the answers.
+//!
+//! `AllocError` means that memory ran out.
 #![tactic(auto)]
 
 mod answers;

@@ -1,4 +1,4 @@
-//! The variables that a goal's state shows.
+//! The variables of a goal whose values a report shows.
 
 ghost use Rattle.heyvl_acts.specs.Acts.{procedure_at};
 ghost use Rattle.heyvl_acts.specs.PlainActs.{procedure_of, procedures_of};
@@ -11,7 +11,7 @@ use heylo_formula::GoalId;
 use heyvl_acts::{TProc, Typed};
 use std::alloc::{AllocError, Global};
 
-/// The first numbers, so many.
+/// Returns the numbers from 0 to `count` - 1.
 fn first_numbers(alloc: Global, count: u32) -> Result<Vec<u32>, AllocError>
     ensures { IfOk result (λ all. all.items ≡ counted 0 count) }
 {
@@ -24,7 +24,7 @@ fn first_numbers(alloc: Global, count: u32) -> Result<Vec<u32>, AllocError>
     Ok(all)
 }
 
-/// The inputs and outputs of a procedure.
+/// Returns the numbers of the inputs and outputs of a procedure.
 fn interface_numbers(alloc: Global, procedure: &TProc) -> Result<Vec<u32>, AllocError>
     requires counted { IsCounted procedure.now }
     requires few { procedure.now.inputs + procedure.now.outputs ≤ 16 }
@@ -33,16 +33,19 @@ fn interface_numbers(alloc: Global, procedure: &TProc) -> Result<Vec<u32>, Alloc
     first_numbers(alloc, procedure.inputs + procedure.outputs)
 }
 
-/// The numbers of the inputs and outputs of the procedure with the number `proc`, which a state of its bound shows.
+/// Returns the numbers of the inputs and outputs of the procedure with the number `proc`. Each
+/// state in which its bound fails is shown by their values.
 pub fn interface_of(alloc: Global, typed: &Typed, proc: u32) -> Result<Vec<u32>, AllocError>
     requires rules { MeetsAllRules typed.now }
     requires there { proc < length typed.now.procs.items }
-    ensures { IfOk result (λ all. all.items ≡ interface_numbers (procedure_at (procedures_of typed.now) proc)) }
+    ensures { IfOk result (λ all. all.items
+        ≡ interface_numbers (procedure_at (procedures_of typed.now) proc)) }
 {
     interface_numbers(alloc, &typed.procs[proc as usize])
 }
 
-/// The variables of a procedure that are shown of each state of this goal.
+/// Returns the numbers of the variables of a procedure whose values are shown in each state of the
+/// goal `id`.
 pub(crate) fn always_shown(
     alloc: Global,
     procedure: &TProc,
@@ -60,7 +63,8 @@ pub(crate) fn always_shown(
     }
 }
 
-/// The variables that are visible at the procedure's loop with this number; none where it has no such loop.
+/// Returns the numbers of the variables that are visible at the procedure's loop with this number,
+/// or none if it has no such loop.
 fn scope_of_loop(procedure: &TProc, number: u32) -> &[u32]
     ensures { result.now ≡ scope_of_loop (procedure_of procedure.now) number }
 {

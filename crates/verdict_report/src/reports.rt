@@ -13,7 +13,7 @@ use heyvl_acts::Typed;
 use number_texts::write_number;
 use std::alloc::{AllocError, Global};
 
-/// Puts the line of a ranking behind the text.
+/// Appends the line of a ranking.
 fn write_loop(
     alloc: Global,
     text: &mut Vec<u8>,
@@ -27,7 +27,8 @@ fn write_loop(
     requires rules { MeetsAllRules typed.now }
     requires there { proc < length typed.now.procs.items }
     requires placed { IsLoopPlaced (length bytes.now) one.now }
-    ensures { OnOk result (text.new.items ≡ text.old.items ++ loop_line bytes.now (procedures_of typed.now) made.now proc one.now) }
+    ensures { OnOk result (text.new.items ≡ text.old.items
+        ++ loop_line bytes.now (procedures_of typed.now) made.now proc one.now) }
 {
     text.extend_from_slice(b"  loop ")?;
     write_number(text, one.number)?;
@@ -36,7 +37,7 @@ fn write_loop(
     Ok(text.push(b'\n')?)
 }
 
-/// Puts the lines of rankings behind the text.
+/// Appends the lines of rankings.
 fn write_loops(
     alloc: Global,
     text: &mut Vec<u8>,
@@ -50,7 +51,8 @@ fn write_loops(
     requires rules { MeetsAllRules typed.now }
     requires there { proc < length typed.now.procs.items }
     requires placed { Each (IsLoopPlaced (length bytes.now)) loops.now }
-    ensures { OnOk result (text.new.items ≡ text.old.items ++ loop_lines bytes.now (procedures_of typed.now) made.now proc loops.now) }
+    ensures { OnOk result (text.new.items ≡ text.old.items
+        ++ loop_lines bytes.now (procedures_of typed.now) made.now proc loops.now) }
 {
     let mut rest = loops;
     'loops: while let Some((one, more)) = rest.split_first() {
@@ -60,7 +62,7 @@ fn write_loops(
     Ok(())
 }
 
-/// Puts the lines of a procedure behind the text.
+/// Appends the lines of a procedure.
 fn write_answer(
     alloc: Global,
     text: &mut Vec<u8>,
@@ -74,7 +76,8 @@ fn write_answer(
     requires rules { MeetsAllRules typed.now }
     requires there { proc < length typed.now.procs.items }
     requires placed { IsAnswerPlaced (length bytes.now) (length typed.now.procs.items) answer.now }
-    ensures { OnOk result (text.new.items ≡ text.old.items ++ answer_lines bytes.now (procedures_of typed.now) made.now proc answer.now) }
+    ensures { OnOk result (text.new.items ≡ text.old.items
+        ++ answer_lines bytes.now (procedures_of typed.now) made.now proc answer.now) }
 {
     text.extend_from_slice(answer.name.as_bytes())?;
     text.extend_from_slice(b": ")?;
@@ -83,8 +86,8 @@ fn write_answer(
     write_loops(alloc, text, bytes, typed, made, proc, &answer.loops)
 }
 
-/// The report of these answers of a file's procedures, one for each in their order. `bytes` is the file's text, and `made` has the
-/// goals whose state or cause is in an answer.
+/// Returns the report with these answers, one for each procedure of the file, in their order.
+/// `bytes` is the file's text, and `made` has the goals whose state or cause is in an answer.
 pub fn report(
     alloc: Global,
     bytes: &[u8],
@@ -93,7 +96,8 @@ pub fn report(
     made: &[NamedGoal],
 ) -> Result<Vec<u8>, AllocError>
     requires { CanReport bytes.now typed.now answers.now }
-    ensures { IfOk result (λ text. text.items ≡ report_text bytes.now (procedures_of typed.now) answers.now made.now) }
+    ensures { IfOk result (λ text. text.items
+        ≡ report_text bytes.now (procedures_of typed.now) answers.now made.now) }
 {
     let mut text = Vec::new(alloc);
     let mut number: u32 = 0;

@@ -1,15 +1,16 @@
-//! Variables and their values in a report. The names are those of a goal's variables, by number; those from `own` on were
-//! binders.
+//! Variables and their values in a report. The names are those of a goal's variables, by number;
+//! variables from `own` on were binders.
 
 ghost use Rattle.std.specs.Prelude.{◌≡◌, ◌++◌, ◌+◌, ◌<◌, ◌^◌, OnOk};
-ghost use Rattle.verdict_report.specs.Settings.{mark_text, more_settings_text, named_by, setting_text, settings_text, variable_text};
+ghost use Rattle.verdict_report.specs.Settings.{mark_text, more_settings_text, named_by};
+ghost use Rattle.verdict_report.specs.Settings.{setting_text, settings_text, variable_text};
 
 use heylo_formula::Val;
 use heyvl_places::Name;
 use number_texts::{write_number, write_value};
 use std::alloc::AllocError;
 
-/// Puts behind the text what tells a variable that was a binder from others of its name.
+/// Appends the mark that distinguishes a variable that was a binder from others of its name.
 fn write_mark(text: &mut Vec<u8>, own: u32, var: usize) -> Result<(), AllocError>
     requires { var + 1 < 2 ^ 64 }
     ensures { OnOk result (text.new.items ≡ text.old.items ++ mark_text own var) }
@@ -23,7 +24,7 @@ fn write_mark(text: &mut Vec<u8>, own: u32, var: usize) -> Result<(), AllocError
     }
 }
 
-/// Puts a variable's name behind the text.
+/// Appends the name of a variable.
 pub(crate) fn write_variable(
     text: &mut Vec<u8>,
     names: &[Name],
@@ -31,7 +32,8 @@ pub(crate) fn write_variable(
     var: usize,
 ) -> Result<(), AllocError>
     requires { var + 1 < 2 ^ 64 }
-    ensures { OnOk result (text.new.items ≡ text.old.items ++ variable_text (named_by names.now own) var) }
+    ensures { OnOk result (text.new.items ≡ text.old.items
+        ++ variable_text (named_by names.now own) var) }
 {
     if let Some(name) = names.get(var) {
         text.extend_from_slice(name.as_bytes())?;
@@ -39,7 +41,7 @@ pub(crate) fn write_variable(
     write_mark(text, own, var)
 }
 
-/// Puts a variable with its value behind the text.
+/// Appends a variable with its value.
 pub(crate) fn write_setting(
     text: &mut Vec<u8>,
     names: &[Name],
@@ -48,21 +50,23 @@ pub(crate) fn write_setting(
     value: Val,
 ) -> Result<(), AllocError>
     requires { var + 1 < 2 ^ 64 }
-    ensures { OnOk result (text.new.items ≡ text.old.items ++ setting_text (named_by names.now own) (var, value)) }
+    ensures { OnOk result (text.new.items ≡ text.old.items
+        ++ setting_text (named_by names.now own) (var, value)) }
 {
     write_variable(text, names, own, var)?;
     text.extend_from_slice(b" = ")?;
     write_value(text, value)
 }
 
-/// Puts variables with their values behind the text, each after a comma.
+/// Appends variables with their values, a comma before each.
 fn write_more(
     text: &mut Vec<u8>,
     names: &[Name],
     own: u32,
     settings: &[(u32, Val)],
 ) -> Result<(), AllocError>
-    ensures { OnOk result (text.new.items ≡ text.old.items ++ more_settings_text (named_by names.now own) settings.now) }
+    ensures { OnOk result (text.new.items ≡ text.old.items
+        ++ more_settings_text (named_by names.now own) settings.now) }
 {
     let mut rest = settings;
     'settings: while let Some((setting, more)) = rest.split_first() {
@@ -73,14 +77,15 @@ fn write_more(
     Ok(())
 }
 
-/// Puts variables with their values behind the text, with commas between them.
+/// Appends variables with their values, with commas between them.
 pub(crate) fn write_settings(
     text: &mut Vec<u8>,
     names: &[Name],
     own: u32,
     settings: &[(u32, Val)],
 ) -> Result<(), AllocError>
-    ensures { OnOk result (text.new.items ≡ text.old.items ++ settings_text (named_by names.now own) settings.now) }
+    ensures { OnOk result (text.new.items ≡ text.old.items
+        ++ settings_text (named_by names.now own) settings.now) }
 {
     match settings.split_first() {
         None => Ok(()),

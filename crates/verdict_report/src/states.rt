@@ -10,7 +10,7 @@ use heylo_formula::Val;
 use heyvl_places::Name;
 use std::alloc::{AllocError, Global};
 
-/// Whether a binder's value is shown: whether it is neither 0 nor false.
+/// Returns whether the value of a binder is shown: it is neither 0 nor false.
 fn is_telling(value: Val) -> bool
     ensures { result ≡ is_telling value }
 {
@@ -20,7 +20,7 @@ fn is_telling(value: Val) -> bool
     }
 }
 
-/// Puts these variables with their values behind the settings.
+/// Appends the variables `shown` with their values to `settings`.
 fn add_valued(
     settings: &mut Vec<(u32, Val)>,
     shown: &[u32],
@@ -40,7 +40,7 @@ fn add_valued(
     Ok(())
 }
 
-/// The shown variables of a state with their values.
+/// Returns the variables `shown` with their values.
 fn settings_of(alloc: Global, shown: &[u32], state: &[Val]) -> Result<Vec<(u32, Val)>, AllocError>
     ensures { IfOk result (λ settings. settings.items ≡ valued state.now shown.now) }
 {
@@ -49,8 +49,9 @@ fn settings_of(alloc: Global, shown: &[u32], state: &[Val]) -> Result<Vec<(u32, 
     Ok(settings)
 }
 
-/// Puts the binders that are shown behind the text, each after a comma where settings stand there already, which is told, and told of the text
-/// that is made. They have these values, and the first has the number `own`.
+/// Appends those binders whose values are shown, and returns whether the text has a setting then.
+/// `begun` says whether it has one before, so that a comma comes first. The first binder has the
+/// number `own`.
 fn write_telling(
     text: &mut Vec<u8>,
     names: &[Name],
@@ -59,8 +60,11 @@ fn write_telling(
     values: &[Val],
 ) -> Result<bool, AllocError>
     requires { own + length values.now < 2 ^ 64 }
-    ensures text { OnOk result (text.new.items ≡ text.old.items ++ behind_text begun (named_by names.now own) (telling own values.now)) }
-    ensures begun { IfOk result (λ stands. stands ≡ (begun || is_some_setting (telling own values.now))) }
+    ensures text { OnOk result
+        (text.new.items ≡ text.old.items
+        ++ behind_text begun (named_by names.now own) (telling own values.now)) }
+    ensures begun { IfOk result
+        (λ stands. stands ≡ (begun || is_some_setting (telling own values.now))) }
 {
     let mut stands = begun;
     let mut var = own as usize;
@@ -79,7 +83,7 @@ fn write_telling(
     Ok(stands)
 }
 
-/// The values of the binders of a state, which have the numbers from `own` on.
+/// Returns the values of the binders of a state, which have the numbers from `own` on.
 fn binders_of(own: u32, state: &[Val]) -> &[Val]
     ensures { result.now ≡ drop own state.now }
 {
@@ -89,9 +93,10 @@ fn binders_of(own: u32, state: &[Val]) -> &[Val]
     }
 }
 
-/// Puts the state of a goal behind the text: the values of the variables with the numbers `shown`, in this order, and then of the binders, which
-/// have the numbers from `own` on, those that are neither 0 nor false, as `name = value` with commas between them; `any state` where there is
-/// none. `names` has the names of the goal's variables, by number. Want of memory is the one error.
+/// Appends the state of a goal, as `name = value` with commas between: the variables `shown`, in
+/// this order, then the binders whose values are neither 0 nor false. Binders have the numbers from
+/// `own` on. If nothing is shown, appends `any state`. `names` has the names of the goal's
+/// variables, by number.
 pub fn write_state(
     alloc: Global,
     text: &mut Vec<u8>,
@@ -100,7 +105,8 @@ pub fn write_state(
     shown: &[u32],
     state: &[Val],
 ) -> Result<(), AllocError>
-    ensures { OnOk result (text.new.items ≡ text.old.items ++ state_text (named_by names.now own) shown.now state.now) }
+    ensures { OnOk result (text.new.items ≡ text.old.items
+        ++ state_text (named_by names.now own) shown.now state.now) }
 {
     let settings = settings_of(alloc, shown, state)?;
     write_settings(text, names, own, &settings)?;

@@ -5,7 +5,9 @@ ghost use Rattle.heyvl_acts.specs.PlainActs.{procedures_of};
 ghost use Rattle.heyvl_acts.specs.Rules.{MeetsAllRules};
 ghost use Rattle.std.specs.Prelude.{◌≡◌, ◌++◌, ◌<◌, ◌^◌, OnOk, length};
 ghost use Rattle.verdict_report.specs.PlacedAnswers.{IsRankPlaced, IsReasonPlaced, IsVerdictPlaced};
-ghost use Rattle.verdict_report.specs.Verdicts.{about_text, condition_text, goal_text, invariant_text, miss_text, node_text, rank_text, reason_text, state_of_goal, verdict_text, way_text};
+ghost use Rattle.verdict_report.specs.Verdicts.{about_text, condition_text, goal_text};
+ghost use Rattle.verdict_report.specs.Verdicts.{invariant_text, miss_text, node_text, rank_text};
+ghost use Rattle.verdict_report.specs.Verdicts.{reason_text, state_of_goal, verdict_text, way_text};
 
 use crate::answers::{LoopAnswer, RankVerdict, Verdict};
 use crate::causes::write_cause;
@@ -19,7 +21,7 @@ use number_texts::{write_number, write_place};
 use proc_contracts::WhyNot;
 use std::alloc::{AllocError, Global};
 
-/// Puts behind the text that it is the goal of a loop's invariant.
+/// Appends the name of the goal of a loop's invariant.
 fn write_invariant(text: &mut Vec<u8>, number: u32) -> Result<(), AllocError>
     ensures { OnOk result (text.new.items ≡ text.old.items ++ invariant_text number) }
 {
@@ -28,7 +30,7 @@ fn write_invariant(text: &mut Vec<u8>, number: u32) -> Result<(), AllocError>
     Ok(text.extend_from_slice(b" at most 1")?)
 }
 
-/// Puts which goal it is behind the text.
+/// Appends the name of a goal.
 fn write_goal(text: &mut Vec<u8>, id: GoalId) -> Result<(), AllocError>
     ensures { OnOk result (text.new.items ≡ text.old.items ++ goal_text id) }
 {
@@ -44,7 +46,7 @@ fn write_goal(text: &mut Vec<u8>, id: GoalId) -> Result<(), AllocError>
     }
 }
 
-/// Puts behind the text why a procedure is no program.
+/// Appends the reason why a procedure is no program.
 fn write_reason(text: &mut Vec<u8>, bytes: &[u8], reason: &WhyNot) -> Result<(), AllocError>
     requires placed { IsReasonPlaced (length bytes.now) reason.now }
     requires short { length bytes.now < 2 ^ 31 }
@@ -61,7 +63,7 @@ fn write_reason(text: &mut Vec<u8>, bytes: &[u8], reason: &WhyNot) -> Result<(),
     }
 }
 
-/// Puts the way to a node behind the text.
+/// Appends the path to a node.
 fn write_way(text: &mut Vec<u8>, way: &[bool]) -> Result<(), AllocError>
     ensures { OnOk result (text.new.items ≡ text.old.items ++ way_text way.now) }
 {
@@ -73,7 +75,7 @@ fn write_way(text: &mut Vec<u8>, way: &[bool]) -> Result<(), AllocError>
     Ok(())
 }
 
-/// Puts a node of a certificate's tree behind the text.
+/// Appends the name of a node of a certificate's tree.
 fn write_node(text: &mut Vec<u8>, way: &[bool]) -> Result<(), AllocError>
     ensures { OnOk result (text.new.items ≡ text.old.items ++ node_text way.now) }
 {
@@ -84,7 +86,7 @@ fn write_node(text: &mut Vec<u8>, way: &[bool]) -> Result<(), AllocError>
     }
 }
 
-/// Puts behind the text why a certificate proves nothing.
+/// Appends the reason why the certificates do not prove a goal.
 fn write_miss(text: &mut Vec<u8>, miss: &Miss) -> Result<(), AllocError>
     ensures { OnOk result (text.new.items ≡ text.old.items ++ miss_text miss.now) }
 {
@@ -97,7 +99,7 @@ fn write_miss(text: &mut Vec<u8>, miss: &Miss) -> Result<(), AllocError>
     }
 }
 
-/// Puts behind the text which goal it is that this is said of.
+/// Appends a verdict and the name of its goal.
 fn write_about(text: &mut Vec<u8>, head: &[u8], id: GoalId) -> Result<(), AllocError>
     ensures { OnOk result (text.new.items ≡ text.old.items ++ about_text head.now id) }
 {
@@ -107,7 +109,7 @@ fn write_about(text: &mut Vec<u8>, head: &[u8], id: GoalId) -> Result<(), AllocE
     Ok(text.extend_from_slice(b"): ")?)
 }
 
-/// Puts the state of a goal of the procedure with the number `proc` behind the text.
+/// Appends the state of a goal of the procedure with the number `proc`.
 fn write_state_of(
     alloc: Global,
     text: &mut Vec<u8>,
@@ -119,23 +121,25 @@ fn write_state_of(
 ) -> Result<(), AllocError>
     requires rules { MeetsAllRules typed.now }
     requires there { proc < length typed.now.procs.items }
-    ensures { OnOk result (text.new.items ≡ text.old.items ++ state_of_goal (procedures_of typed.now) made.now proc id state.now) }
+    ensures { OnOk result (text.new.items ≡ text.old.items
+        ++ state_of_goal (procedures_of typed.now) made.now proc id state.now) }
 {
     let shown = always_shown(alloc, &typed.procs[proc as usize], id)?;
     let (names, own) = names_of(made, proc, id);
     write_state(alloc, text, names, own, &shown, state)
 }
 
-/// Puts behind the text that the bound stands under that of another procedure.
+/// Appends that the bound is conditional on the procedure `other`.
 fn write_condition(text: &mut Vec<u8>, typed: &Typed, other: u32) -> Result<(), AllocError>
     requires { other < length typed.now.procs.items }
-    ensures { OnOk result (text.new.items ≡ text.old.items ++ condition_text (procedure_at (procedures_of typed.now) other)) }
+    ensures { OnOk result (text.new.items ≡ text.old.items
+        ++ condition_text (procedure_at (procedures_of typed.now) other)) }
 {
     text.extend_from_slice(b"conditional on ")?;
     Ok(text.extend_from_slice(typed.procs[other as usize].name.as_bytes())?)
 }
 
-/// Puts behind the text what is said of the bound of the procedure with the number `proc`.
+/// Appends the verdict on the bound of the procedure with the number `proc`.
 pub(crate) fn write_verdict(
     alloc: Global,
     text: &mut Vec<u8>,
@@ -148,8 +152,10 @@ pub(crate) fn write_verdict(
     requires short { length bytes.now < 2 ^ 31 }
     requires rules { MeetsAllRules typed.now }
     requires there { proc < length typed.now.procs.items }
-    requires placed { IsVerdictPlaced (length bytes.now) (length typed.now.procs.items) verdict.now }
-    ensures { OnOk result (text.new.items ≡ text.old.items ++ verdict_text bytes.now (procedures_of typed.now) made.now proc verdict.now) }
+    requires placed { IsVerdictPlaced (length bytes.now)
+        (length typed.now.procs.items) verdict.now }
+    ensures { OnOk result (text.new.items ≡ text.old.items
+        ++ verdict_text bytes.now (procedures_of typed.now) made.now proc verdict.now) }
 {
     match verdict {
         Verdict::Verified => Ok(text.extend_from_slice(b"verified")?),
@@ -176,7 +182,7 @@ pub(crate) fn write_verdict(
     }
 }
 
-/// Puts behind the text what is said of the ranking of this loop of the procedure with the number `proc`.
+/// Appends the verdict on the ranking of this loop of the procedure with the number `proc`.
 pub(crate) fn write_rank(
     alloc: Global,
     text: &mut Vec<u8>,
@@ -190,7 +196,9 @@ pub(crate) fn write_rank(
     requires rules { MeetsAllRules typed.now }
     requires there { proc < length typed.now.procs.items }
     requires placed { IsRankPlaced (length bytes.now) one.now.rank }
-    ensures { OnOk result (text.new.items ≡ text.old.items ++ rank_text bytes.now (procedures_of typed.now) made.now proc one.now.number one.now.rank) }
+    ensures { OnOk result (text.new.items ≡ text.old.items
+        ++ rank_text bytes.now (procedures_of typed.now) made.now proc one.now.number
+        one.now.rank) }
 {
     let id = GoalId::Ranking(one.number);
     match &one.rank {

@@ -5,7 +5,7 @@ use Rattle.verdict_report.specs.States.{telling}
 use Rattle.verdict_report.specs.internal.Listings.{behind_text, is_some_setting}
 use Rattle.verdict_report.proofs.states.write_telling.Given as goal
 
--- What stands and what is to come make up the whole; and each variable's number is in range.
+-- -
 abbrev pub invariant-values : goal.invariant-values
 invariant-values l = record {
   text : l.text.items ++ behind_text l.stands (named_by l.fn.names l.fn.own) (telling l.var l.rest) ≡ l.fn.text.items ++ behind_text l.fn.begun (named_by l.fn.names l.fn.own) (telling l.fn.own l.fn.values);
