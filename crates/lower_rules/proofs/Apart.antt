@@ -1,4 +1,5 @@
--- Acts mean the same with a variable that they lack in the state as with it put in behind them.
+-- Acts that do not use a variable have the same meaning if the variable is in the state as if it is
+-- substituted in the formula after them.
 use Rattle.std.proofs.Common.{◌≡◌, ◌∙◌, ◌==◌, ℕ, refl, ap, ap₂, Bool, false, cond, List, [], ◌∷◌}
 use Rattle.heyvl_num.specs.Rational.{Rational}
 use Rattle.heyvl_num.specs.Value.{Value, oneᵛ, ◌+ᵛ◌, ◌*ᵛ◌}
@@ -27,7 +28,7 @@ abbrev pub LacksParts : ℕ → List (Rational × Term) → Type 0
 LacksParts n [] = Unit {0}
 LacksParts n (q ∷ qs) = LacksTerm n q.1 × LacksParts n qs
 
--- Acts without loops and calls that neither read the variable nor give it a value.
+-- Acts without loops and calls that neither read the variable nor assign it.
 abbrev mutual
   pub LacksAct : ℕ → Act → Type 0
   LacksAct n (Act.set x t span) = ((x == n) ≡ false) × LacksTerm n t
@@ -51,7 +52,7 @@ abbrev mutual
   ArmsLack n (Arms.arm g b more) = (is_free_in n g ≡ false) × (Lacks n b × ArmsLack n more)
 
 module _ (n : ℕ) (v : Val) where
-  -- the first with the variable in the state, the second without it
+  -- The first post is evaluated with the variable in the state, the second one without it.
   abbrev Beside : Post → Post → Type 0
   Beside k j = (s : Env) (c : Choices) → k (put n v s) c ≡ j s c
 
@@ -98,7 +99,8 @@ module _ (n : ℕ) (v : Val) where
     arms_apart Arms.no_arm k j otherwise other h b o s c = o s c
     arms_apart (Arms.arm g x more) k j otherwise other h b o s c = either _ _ _ _ _ _ (unfree_in n g v s Choices.stop h.0) (acts_apart x k j h.1.0 b s (right c)) (arms_apart more k j otherwise other h.1.1 b o s (right c))
 
--- What acts that lack a variable mean for a formula without binders, in a state with that variable, is what they mean in the state without
--- it for the formula's value with the variable put in behind them.
+-- Let acts not use a variable, and let the formula after them have no binders. Their meaning in a
+-- state with the variable is their meaning in the state without it, if the variable is substituted
+-- in the formula.
 pub acts_stand_apart : (n : ℕ) (acts : Acts) (f : Form) (v : Val) (s : Env) (c : Choices) → Lacks n acts → has_binder f ≡ false → forward acts (value f) (put n v s) c ≡ forward acts (λ t d. value f (put n v t) Choices.stop) s c
 acts_stand_apart n acts f v s c h plain = acts_apart n v acts (value f) (λ t d. value f (put n v t) Choices.stop) h (λ t d. unchosen f (put n v t) d plain) s c

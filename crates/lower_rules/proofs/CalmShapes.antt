@@ -1,5 +1,5 @@
--- Where a step of a calm act leads: to acts that are calm and fewer, before the same items, with the same turns. And the same before two
--- lists of items at once.
+-- A step of a calm act leads to fewer calm acts before the same items, with the same iterations.
+-- Two lists of items are also compared side by side.
 use Rattle.std.proofs.Common.{◌≡◌, ◌≤◌, ◌+◌, ℕ, refl, sym, ap, ap₂, subst, ◌∙◌, arith, Bool, true, false, cond, List, [], ◌∷◌}
 use Rattle.std.specs.Prelude.{set}
 use Prim.Native.Nat.{suc}
@@ -47,7 +47,7 @@ module _ (ps : List TypedProcedure) (p : ℕ) where
   abbrev q : TypedProcedure
   q = procedure_at ps p
 
-  -- calm acts before two lists of items
+  -- Calm acts before two lists of items.
   pub record ArePair (k : ℕ) (is js : List Item) (turns : ℕ → ℕ) (c e : Config) : Type 0 where
     pub acts : Acts
     pub calm : AreCalm (procedure_at ps p) acts
@@ -135,7 +135,6 @@ module _ (ps : List TypedProcedure) (p : ℕ) where
   pub act_weighs : (a : Act) → IsCalm (procedure_at ps p) a → (is : List Item) (c : Config) (d : Decision) → total_weight (step_act ps a is c d) ≡ oneʳ
   act_weighs a h is c d = steps_weigh_one ps (Item.act a) is c d (weighs_one a h)
 
--- what holds of the first of two lists
 pub both_all : (R : Config → Config → Type 0) (P : Config → Type 0) → ((c e : Config) → R c e → P c) → (xs ys : Outcomes) → Each (λ (y : Rational × Config). zeroʳ ≤ʳ y.0) xs → Both R xs ys → EachOutcome P xs
 both_all R P h [] [] w b = tt
 both_all R P h [] (y ∷ ys) w b = absurd b
@@ -144,7 +143,7 @@ both_all R P h (x ∷ xs) (y ∷ ys) w b = ((w.0, h x.1 y.1 b.0.1), both_all R P
 
 -- ---- Calm acts before one list of items
 
--- calm acts before these items
+-- Calm acts before these items.
 pub record IsAt (ps : List TypedProcedure) (p k : ℕ) (is : List Item) (turns : ℕ → ℕ) (c : Config) : Type 0 where
   pub acts : Acts
   pub calm : AreCalm (procedure_at ps p) acts

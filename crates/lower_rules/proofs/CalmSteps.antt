@@ -1,4 +1,5 @@
--- Acts take steps, and the parts of a body with one loop keep the rules that runs need.
+-- Acts take at least one step, and the parts of a body with one loop satisfy the rules that runs
+-- need.
 use Rattle.std.proofs.Common.{◌≤◌, ◌+◌, ℕ, arith, List}
 use Rattle.heyvl_acts.specs.Acts.{Act, TypedProcedure, acts_in}
 use Rattle.heyvl_acts.specs.Length.{length_of_act}
@@ -9,7 +10,6 @@ use Rattle.run_laws.specs.RuledConfigurations.{IsRuled}
 use Rattle.lower_goals.specs.OneLoop.{OneLoop}
 use Rattle.lower_goals.proofs.exported.LoopParts.{OfParts, of_parts}
 
--- an act takes a step
 pub some_length : (a : Act) (m : ℕ) → length_of_act a + m ≤ 0 → ⊥
 some_length (Act.set x t span) m h = omega (arith, h)
 some_length (Act.draw x qs span) m h = omega (arith, h)
@@ -23,6 +23,5 @@ some_length (Act.validate co span) m h = omega (arith, h)
 some_length (Act.loop k b) m h = omega (arith, h)
 some_length (Act.call xs q es span) m h = omega (arith, h)
 
--- the parts of the body, by the rules alone
 pub ruled_parts : (ps : List TypedProcedure) (p : TypedProcedure) (l : OneLoop p) → MeetsRules ps p → OfParts (IsRuled ps p) p l
 ruled_parts ps p l rules = of_parts (IsRuled ps p) p l (each_two (λ a. HasOwnTargets p a × IsTypedAct ps p a) WeighsOne (in_order (acts_in p.body)) (each_two (HasOwnTargets p) (IsTypedAct ps p) (in_order (acts_in p.body)) rules.targets rules.typed) rules.weights)

@@ -1,4 +1,4 @@
--- What is made of the goals of an omega pair can be decided.
+-- The results for the goals of an omega pair can be decided.
 use Rattle.std.proofs.Common.{sym, subst}
 use Rattle.heylo_formula.specs.declared.goals.Made.{Made}
 use Rattle.heyvl_acts.specs.Rules.{Each}
@@ -21,7 +21,6 @@ module _ (x : Pair) (r : IsReady x) where
   pub goal_can_be_decided : GeneratedFormIsFormula → GeneratedFormIsOver → PrenexedFormIsFormula → PrenexedFormHasNoBinder → PrenexedGoalsAreGoals → (step : Step) → Each IsSmall (limited (first x) (body x) (behind x) (formula_of (first x) (head x) (second x)) step) → IsDecidable (step_goal (first x) (head x) (body x) (behind x) (second x) step)
   goal_can_be_decided formula over typed plain law step small = goal_decidable r.file (first x) r.rules (the_loop x r) (second x) r.other_rules r.pair formula over typed plain law r.within r.other_within step small
 
-  -- What is made of the goal of a step can be decided.
   pub made_decidable : GeneratedFormIsFormula → GeneratedFormIsOver → PrenexedFormIsFormula → PrenexedFormHasNoBinder → PrenexedGoalsAreGoals → (step : Step) (m : Made) → IsMadeStep x step m → CanDecide m
   made_decidable formula over typed plain law step m (IsMadeFor.whole g is small) = subst IsDecidable (sym is) (goal_can_be_decided formula over typed plain law step small)
   made_decidable formula over typed plain law step m (IsMadeFor.too_deep f listed h) = tt

@@ -1,4 +1,5 @@
--- What runs of the loop `while !d { d = flip(1/2) }` have collected is the post where they have ended; and the answers on three goals.
+-- The expected post of terminated runs of the loop `while !d { d = flip(1/2) }`, and the answers on
+-- three goals.
 use Rattle.std.proofs.Common.{◌≡◌, refl, ℕ, true, false, [], ◌∷◌, pos}
 use Rattle.std.specs.Prelude.{None, Vec}
 use Rattle.heyvl_num.specs.Rational.{Rational, ratio}
@@ -38,11 +39,12 @@ ended_after k = record { procedure = 0; items = []; frames = []; state = Truth t
 abbrev running_after : ℕ → Config
 running_after k = record { procedure = 0; items = Item.turn head body ∷ []; frames = []; state = Truth true ∷ []; reward = zeroᵛ; turns = λ n. k }
 
--- With at most two turns the post counts, with three it doesn't, and where the run hasn't ended neither.
+-- With at most two iterations the post counts, with three it does not; nor does it if the run has
+-- not terminated.
 settled_rows : (settled 2 1 post (ended_after 2) ≡ oneᵛ) × (settled 2 1 post (ended_after 3) ≡ zeroᵛ) × (settled 2 1 post (running_after 2) ≡ zeroᵛ)
 settled_rows = (refl, refl, refl)
 
--- ---- Answers: a goal that is falsified goes before an earlier one of which nothing is known
+-- ---- Answers: a falsified goal is reported rather than an earlier goal that is not decided
 
 falsified_goes_before : (s : Vec Val Global) → told (decision.Unknown Cause.Bits) (decision.Proved None) (decision.Falsified s) ≡ answer.Fails Step.Turn s
 falsified_goes_before s = refl

@@ -1,4 +1,5 @@
--- The states of the goals of an omega pair: one of the first procedure, and a number of turns behind it.
+-- The states of the goals of an omega pair: one of the first procedure, then a number of
+-- iterations.
 use Rattle.std.proofs.Common.{◌≡◌, ◌∙◌, ◌<◌, ◌+◌, ◌==◌, ℕ, refl, sym, ap, subst, arith, Bool, true, false, ◌&&◌, cond, List, [], ◌∷◌, ◌++◌, length}
 use Prim.Native.Nat.{zero, suc}
 use Rattle.heyvl_num.specs.Rational.{Rational, ratio, zeroʳ, oneʳ, leqʳ, ◌+ʳ◌}
@@ -38,7 +39,7 @@ pub turns_has : (m : ℕ) → has Ty.UInt (turns_value m) ≡ true
 turns_has m = both_true ((ratio (pos m) 1).den == 1) (leqʳ zeroʳ (ratio (pos m) 1)) (same_number (ratio (pos m) 1).den 1 (turns_whole m)) (ratio_nonnegative (pos m) 1 (omega arith) (omega (arith, ints))).holds
 
 module _ (p : TypedProcedure) (s : List Val) (typed : IsState p s) (m : ℕ) where
-  -- the state with a number of turns behind it
+  -- The state followed by a number of iterations.
   abbrev pub more_state : List Val
   more_state = s ++ turns_value m ∷ []
 
@@ -64,7 +65,6 @@ module _ (p : TypedProcedure) (s : List Val) (typed : IsState p s) (m : ℕ) whe
           below : (k == y) ≡ false → y < k
           below f = grind (arith, f, l)
 
-  -- With a number of turns put in, both are the same on the goal's variables.
   pub put_more : (v : Val) (y : ℕ) → y < suc (length (variables p)) → put (length (variables p)) v (environment more_state) y ≡ put (length (variables p)) v (environment s) y
   put_more v y l = put_first (length (variables p)) y v l (more_first y)
 

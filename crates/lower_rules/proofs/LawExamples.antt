@@ -1,5 +1,6 @@
--- What the laws of lower bounds ask, at `d = false`, and then `while !d { d = flip(1/2) }`: it satisfies the static rules, and 0 is an
--- omega invariant and a bound.
+-- The requirements of the laws of lower bounds, at `d = false`, and then
+--   `while !d { d = flip(1/2) }`.
+-- The procedure satisfies the static rules, and 0 is an omega invariant and a bound.
 use Rattle.std.proofs.Common.{◌≡◌, ◌∙◌, ◌⊎◌, ◌≤◌, ◌<◌, inl, inr, ap, refl, ℕ, suc, zero, Bool, true, false, List, [], ◌∷◌, leb, ◌==◌, ◌||◌, arith}
 use Rattle.std.specs.Prelude.{Some, None, not, if◌then◌else◌}
 use Rattle.std.proofs.lemmas.Bool.Decides.{leb_tells}
@@ -80,7 +81,7 @@ one_held : IsHeld (types_in (Ty.Bool ∷ [])) (Form.number oneᵛ)
 unfolding oneᵛ oneʳ zeroʳ ratio leqʳ
 one_held = (refl, refl)
 
--- The first variable is the only one to see.
+-- Only the first variable is visible.
 only_first : (y : ℕ) → ((0 == y) || leb (suc y) 1) ≡ ((0 == y) || false)
 only_first zero = refl
 only_first (suc y) = ap (λ b. (0 == suc y) || b) (go (leb_tells (suc (suc y)) 1))
@@ -123,7 +124,7 @@ unfolding leqᵛ leqʳ ◌+ᵛ◌ ◌*ᵛ◌ zeroᵛ oneᵛ zeroʳ oneʳ halfʳ 
 turn_at true = record { holds = refl }
 turn_at false = record { holds = refl }
 
--- The file satisfies the rules and 0 is an omega invariant, as `OmegaBoundsRuns` asks.
+-- The file satisfies the static rules and 0 is an omega invariant, as `OmegaBoundsRuns` requires.
 zero_is_an_invariant : Each (MeetsRules file) file × IsOmega two head body Acts.done zero_form
 zero_is_an_invariant = ((two_meets, tt), record { base = λ s c typed. base_at (truth_of (get 0 s)); turn = λ s c m typed. turn_at (truth_of (get 0 s)) })
 
@@ -156,6 +157,7 @@ zero_bounds s typed n t = sum_from_zero (worth false post) (ConfigFits file 0) (
 abbrev infinitely : Rational × Form
 infinitely = (oneʳ, Form.number infinite)
 
--- 0 is a bound, the post is at most 1, and infinity ranks the loop and bounds the ranking before the loop, as `RemainderBoundsRuns` asks.
+-- 0 is a bound, the post is at most 1, and infinity ranks the loop and bounds the ranking before
+-- the loop, as `RemainderBoundsRuns` requires.
 infinity_ranks : (Bound file 0 × ((s : List Val) → IsState two s → value post (environment s) Choices.stop ≤ᵛ oneᵛ)) × (RankedBy file 0 head body infinitely × ((s : List Val) (c : Choices) → forward (upward front) (value (Form.number infinite)) (environment s) c ≤ᵛ infinite))
 infinity_ranks = ((zero_bounds, λ s typed. at_most_one (truth_of (get 0 s))), ((λ s typed n t. at_most_infinity _), λ s c. at_most_infinity _))

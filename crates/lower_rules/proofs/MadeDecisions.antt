@@ -1,4 +1,4 @@
--- What is made of a goal can be decided, and what is decided of it is its decision within limits.
+-- The result for a goal can be decided, and the decision is one within limits.
 use Rattle.std.proofs.Common.{◌≡◌, refl, sym, subst, arith, List, [], ◌∷◌}
 use Rattle.std.specs.Prelude.{Result, Ok, Err, IfOk}
 use Rattle.heylo_formula.specs.Formula.{Form}
@@ -20,7 +20,7 @@ use Rattle.lower_rules.specs.LimitedDecisions.{IsDecidedWithin}
 use Rattle.lower_goals.specs.LimitedGoals.{IsMadeFor}
 use Rattle.lower_rules.specs.internal.Decidable.{CanDecide, IsDecidable}
 
--- ---- Goals of one form that has limits
+-- ---- Goals with one limited form
 
 few_decidable : (g : Goal) → IsGoal g → IsFew g → IsDecidable g
 few_decidable g i f = record { typed = i.typed; over = i.over; stated = f.stated; found = f.found; variables = f.variables }
@@ -35,9 +35,8 @@ made_for f g (made.Goal x) h = IsMadeFor.whole x h.0 (h.1, tt)
 made_for f g made.Depth h = IsMadeFor.too_deep f (0, omega arith, refl) h
 made_for f g made.Nodes h = IsMadeFor.too_many f (0, omega arith, refl) h
 
--- ---- What is made
+-- ---- The results
 
--- A goal that is made is a goal that can be decided.
 pub made_goal : (m : Made) (x : G.Goal) → m ≡ made.Goal x → CanDecide m → IsDecidable (goal_of x)
 made_goal m x e h = subst CanDecide e h
 
@@ -62,14 +61,12 @@ whole_made g forms m x e (IsMadeFor.whole y is small) = record { is = subst (λ 
 whole_made g forms m x e (IsMadeFor.too_deep f listed h) = absurd (no_depth x e)
 whole_made g forms m x e (IsMadeFor.too_many f listed h) = absurd (no_nodes x e)
 
--- The decision of the goal that is made.
 pub goal_decided : (g : Goal) (forms : List Form) (m : Made) (x : G.Goal) (d : Decision) → m ≡ made.Goal x → IsMadeFor g forms m → IsDecision (goal_of x) d → IsDecidedWithin g forms d
 goal_decided g forms m x d e h k = let w = whole_made g forms m x e h in IsDecidedWithin.decided d w.small (subst (λ (y : Goal). IsDecision y d) w.is k)
 
 pub goal_tells : (g : Goal) (forms : List Form) (m : Made) (x : G.Goal) (d : Decision) → m ≡ made.Goal x → IsMadeFor g forms m → Tells (goal_of x) d → Tells g d
 goal_tells g forms m x d e h k = let w = whole_made g forms m x e h in subst (λ (y : Goal). Tells y d) w.is k
 
--- The limits.
 pub depth_decided : (g : Goal) (forms : List Form) (m : Made) → m ≡ made.Depth → IsMadeFor g forms m → IsDecidedWithin g forms (Unknown cause.Depth)
 depth_decided g forms m e (IsMadeFor.whole y is small) = absurd (no_depth y (sym e))
 depth_decided g forms m e (IsMadeFor.too_deep f listed h) = IsDecidedWithin.too_deep f listed h
@@ -80,7 +77,7 @@ nodes_decided g forms m e (IsMadeFor.whole y is small) = absurd (no_nodes y (sym
 nodes_decided g forms m e (IsMadeFor.too_deep f listed h) = absurd (nodes_no_depth (sym e))
 nodes_decided g forms m e (IsMadeFor.too_many f listed h) = IsDecidedWithin.too_many f listed h
 
--- ---- What is so of an answer in two ways
+-- ---- Two properties of an answer
 
 pub both_ok : {A E : Type 0} (P Q R : A → Type 0) (r : Result A E) → ((x : A) → P x → Q x → R x) → IfOk r P → IfOk r Q → IfOk r R
 both_ok P Q R (Ok x) f h k = f x h k

@@ -1,5 +1,5 @@
--- The goals of an omega pair are goals that can be decided; where they hold the formula is an omega invariant, and where one fails in a
--- state the inequality fails there for some choices.
+-- The goals of an omega pair can be decided. If they hold, the formula is an omega invariant; if
+-- one fails in a state, the inequality fails there for some choices.
 use Rattle.std.proofs.Common.{◌≡◌, ◌∙◌, ◌^◌, ℕ, refl, sym, ap, ap₂, subst, arith, false, List, [], ◌∷◌, ◌++◌, length, take}
 use Rattle.std.proofs.lemmas.List.{length-append}
 use Rattle.std.specs.Prelude.{if◌then◌else◌, pos}
@@ -53,7 +53,7 @@ use Rattle.lower_rules.proofs.GoalStates.{more_first, more_is, more_last, more_s
 use Rattle.lower_goals.proofs.exported.OmegaParts.{body_acts, formula_over, formula_plain, guard_over, guard_plain}
 use Rattle.lower_rules.proofs.TurnsApart.{acts_lack}
 
--- ---- Terms that are put in
+-- ---- Terms that are substituted
 
 no_turn_value : (e : Env) → term_value no_turn e ≡ turns_value 0
 unfolding zeroᵛ zeroʳ
@@ -151,7 +151,6 @@ module _ (ps : List TypedProcedure) (p : TypedProcedure) (rules : MeetsRules ps 
     pub turn_value : (c : Choices) → value (Great Turn) (environment (more_state p s state m)) (behind c) ≡ (if holds l.head.guard (environment s) Choices.stop then forward l.body (λ t d. value (formula_of p l.head q) (with_turns (length (variables p)) m t) Choices.stop) (environment s) c else forward l.behind (value p.post) (environment s) c)
     turn_value c = three (guard_same (left (behind c))) (body_value c) (loop_value c)
 
-  -- Where the goals with no turn and with a turn more hold, the formula is an omega invariant.
   pub goals_say_omega : GeneratedFormMeansActs → GeneratedFormIsOver → PrenexedFormHasNoBinder → PrenexedGoalsSpeakOfChoices → Holds (step_goal p l.head l.body l.behind q Base) → Holds (step_goal p l.head l.body l.behind q Turn) → IsOmega p l.head l.body l.behind (formula_of p l.head q)
   goals_say_omega means over plain law b t = record {
     base = λ s c st. subst (λ v. v ≤ᵛ (if holds l.head.guard (environment s) Choices.stop then zeroᵛ else forward l.behind (value p.post) (environment s) c)) (none_value means over plain s st 0) (subst (λ v. value (Small Base) (environment (more_state p s st 0)) Choices.stop ≤ᵛ v) (base_value means over plain s st 0 c) (by_choices over law Base b (more_state p s st 0) (behind c) (more_typed p s st 0 (type_list (goal_variables p l.head q)) are)));

@@ -1,4 +1,5 @@
--- Omega invariants: by the number of turns that are left, and for each of them by the acts of the body before the next test.
+-- Omega invariants bound runs: by induction on the number of iterations that are left, and for each
+-- number on the acts of the body before the next test.
 use Rattle.std.proofs.Common.{◌≡◌, ◌≤◌, ◌<◌, ◌+◌, ◌*◌, ◌==◌, ℕ, refl, sym, ap, subst, ◌∙◌, arith, Bool, true, false, cond, List, [], ◌∷◌, length, leb, ◌⊎◌, inl, inr}
 use Rattle.std.proofs.lemmas.Bool.Decides.{leb_tells}
 use Prim.Native.Nat.{zero, suc}
@@ -44,7 +45,6 @@ within m k h = go (leb_tells k m)
     go (inl e) = e.0
     go (inr e) = absurd (omega (arith, h, e.1))
 
--- so many steps are left after a turn, or after the loop
 pub after_turn : (j a b n : ℕ) → suc j * (1 + a) + (1 + b) ≤ suc n → a + (j * (1 + a) + (1 + b)) ≤ n
 after_turn j a b n h = omega (arith, h)
 
@@ -70,7 +70,7 @@ module _ (ps : List TypedProcedure) (rules : Each (MeetsRules ps) ps) (p : ℕ) 
   ruled : OfParts (IsRuled ps (procedure_at ps p)) (procedure_at ps p) l
   ruled = ruled_parts ps (procedure_at ps p) l (each_at (MeetsRules ps) ps p rules there)
 
-  -- ---- What is collected isn't negative
+  -- ---- The expected post is not negative
 
   settled_from_zero : (c : Config) → ConfigFits ps p c → zeroᵛ ≤ᵛ settled m l.head.number (procedure_at ps p).post c
   settled_from_zero c h = go (leb (c.turns l.head.number) m)
@@ -85,7 +85,7 @@ module _ (ps : List TypedProcedure) (rules : Each (MeetsRules ps) ps) (p : ℕ) 
   from_zero : (n : ℕ) (s : List Val) → IsState (procedure_at ps p) s → (v : Value) (turns : ℕ → ℕ) (t : Tree) → zeroᵛ ≤ᵛ weighted_sum g (runs ps n (at ps p g tests s v turns) t)
   from_zero n s st v turns t = sum_from_zero g (ConfigFits ps p) settled_from_zero (runs ps n (at ps p g tests s v turns) t) (runs_fit ps rules p n (at ps p g tests s v turns) t (test_fits s st v turns))
 
-  -- ---- Behind the loop
+  -- ---- After the loop
 
   collected_end : (turns : ℕ → ℕ) → turns l.head.number ≤ m → (s : List Val) (v : Value) → value (procedure_at ps p).post (environment s) Choices.stop ≤ᵛ settled m l.head.number (procedure_at ps p).post (at ps p g [] s v turns)
   collected_end turns le s v = rw (within m (turns l.head.number) le) (≤ᵛ_refl _)
@@ -97,12 +97,12 @@ module _ (ps : List TypedProcedure) (rules : Each (MeetsRules ps) ps) (p : ℕ) 
   behind_loop : (turns : ℕ → ℕ) → turns l.head.number ≤ m → (n : ℕ) → length_of l.behind + 0 ≤ n → (s : List Val) → IsState (procedure_at ps p) s → (v : Value) (t : Tree) → AtLeast (weighted_sum g (runs ps n (at ps p g (push l.behind []) s v turns) t)) (forward l.behind (value (procedure_at ps p).post) (environment s))
   behind_loop turns le n few s st v t = claims ps p g [] turns (value (procedure_at ps p).post) 0 (end_base turns le) n l.behind calm.behind few s st v t
 
-  -- ---- Turns
+  -- ---- Iterations
 
   counted_here : (s : List Val) (v : Value) (turns : ℕ → ℕ) → counted (at ps p g tests s v turns) l.head.number l.head.number ≡ 1 + turns l.head.number
   counted_here s v turns = rw (alike p, alike l.head.number) refl
 
-  -- what the invariant says of a test
+  -- The bound that the invariant states at a test.
   abbrev Tested : ℕ → List Val → Bool → Type 0
   Tested zero s b = (c : Choices) → K 0 (environment s) Choices.stop ≤ᵛ cond b zeroᵛ (forward l.behind (value (procedure_at ps p).post) (environment s) c)
   Tested (suc j) s b = (c : Choices) → K (suc j) (environment s) Choices.stop ≤ᵛ cond b (forward l.body (K j) (environment s) c) (forward l.behind (value (procedure_at ps p).post) (environment s) c)

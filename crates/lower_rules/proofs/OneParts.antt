@@ -1,4 +1,4 @@
--- One part in a fraction above 0 times a number above 0: it gives 1 with them.
+-- The fraction 1/(e*m) times e*m is 1, for `e` and `m` above 0.
 use Rattle.std.proofs.Common.{◌≡◌, ◌∙◌, ◌<◌, ◌*◌, ℕ, refl, sym, ap, subst, arith}
 use Rattle.std.proofs.Math.IntN.{ℤ, pos, negsuc, ◌*ℤ◌}
 use Rattle.std.proofs.Math.Nat.{mul-pos}
@@ -25,14 +25,13 @@ no_parts d p = ratio_same _ _ _ _ p (omega arith) (omega (arith, ints))
 times : (n m : ℕ) → pos n *ℤ pos m ≡ pos (n * m)
 times n m = omega (arith, ints)
 
--- A fraction of a number above 0, times a whole number.
 whole_times : (e : Rational) (n m : ℕ) → e.num ≡ pos n → e *ʳ ratio (pos m) 1 ≡ ratio (pos (n * m)) e.den
 whole_times e n m h =
     ap (λ x. x *ʳ ratio (pos m) 1) (sym (ratio_parts e) ∙ ap (λ k. ratio k e.den) h)
     ∙ (ratio-* (pos n) e.den (pos m) 1 e.positive (omega arith)
     ∙ (ap (λ k. ratio k (e.den * 1)) (times n m) ∙ ap (λ d. ratio (pos (n * m)) d) (omega arith)))
 
--- The part isn't below 0, and gives 1 with the fraction times the number.
+-- The part is not negative, and its product with the fraction and the number is 1.
 pub record IsPart (e : Rational) (m : ℕ) (part : Rational) : Type 0 where
   pub nonnegative : zeroʳ ≤ʳ part
   pub undoes : part *ʳ (e *ʳ ratio (pos m) 1) ≡ oneʳ

@@ -1,4 +1,4 @@
--- A variable that is the procedure's own takes a value of its type.
+-- The state keeps its types if a variable of the procedure takes a value of its type.
 use Rattle.std.proofs.Common.{◌≡◌, ◌<◌, ◌∙◌, ℕ, sym, subst, true, List}
 use Rattle.std.specs.Prelude.{set}
 use Rattle.heylo_formula.specs.State.{put, has, environment}

@@ -1,4 +1,4 @@
--- What is answered of the parts that the program lends of a remainder pair, and what it promises.
+-- The answer for the borrowed parts of a remainder pair, and its promise.
 use Rattle.std.proofs.Common.{◌≡◌, ◌<◌, ℕ, sym, ap, subst, List, length}
 use Rattle.heyvl_num.specs.Rational.{Rational}
 use Rattle.heylo_formula.specs.Formula.{Form}

@@ -1,4 +1,4 @@
--- What is answered of a remainder pair, and what it promises.
+-- The answer on a remainder pair, and its promise.
 use Rattle.std.proofs.Common.{◌≡◌, ◌∙◌, ◌<◌, ℕ, refl, sym, ap, subst, List, [], ◌∷◌, ◌++◌, length}
 use Rattle.std.specs.Prelude.{Some, if◌then◌else◌}
 use Rattle.heyvl_num.specs.Rational.{Rational, zeroʳ, ◌<ʳ◌}
@@ -31,7 +31,7 @@ use Rattle.lower_rules.proofs.OmegaBounds.{alike}
 use Rattle.lower_rules.proofs.RemainderBounds.{remainder_bounds}
 use Rattle.lower_goals.proofs.exported.StartParts.{is_start}
 
--- ---- The loop's turns are bounded
+-- ---- The loop's iterations are bounded
 
 past_straight : (n : ℕ) (xs ys : List Act) → Each IsStraight xs → loop_in n (xs ++ ys) ≡ loop_in n ys
 past_straight n [] ys s = refl
@@ -50,7 +50,6 @@ past_straight n (Act.validate co span ∷ xs) ys s = past_straight n xs ys s.1
 this_loop : (h : Head) (b : Acts) (rest : List Act) → loop_in h.number (Act.loop h b ∷ rest) ≡ Some (h, b)
 this_loop h b rest = ap (λ t. if t then Some (h, b) else loop_in h.number rest) (alike h.number)
 
--- The number of the one loop names it.
 named_loop : (p : TypedProcedure) (l : OneLoop p) → loop_in l.head.number (in_order (acts_in p.body)) ≡ Some (l.head, l.body)
 named_loop p l =
     ap (loop_in l.head.number) (body_in_order p l)
@@ -80,7 +79,7 @@ module _ (ps : List TypedProcedure) (answers : List Answer) (p q : ℕ) (pair : 
   is_answer e step (decision.Falsified s) h = record { pair = pair; verified = verified; ranked = ranked; decided = h.decided }
   is_answer e step (decision.Unknown cause) h = record { pair = pair; verified = verified; ranked = ranked; decided = h.decided }
 
--- ---- What they promise
+-- ---- The promises
 
 module _ (ps : List TypedProcedure) (p q : ℕ) (rules : Each (MeetsRules ps) ps) (there : p < length ps) (pair : RemainderPair (procedure_at ps p) (procedure_at ps q)) (small : HasSmallBound ps p) (turns : HasBoundedTurns ps p pair.loop.head.number) where
   positive : zeroʳ <ʳ pair.rank.0

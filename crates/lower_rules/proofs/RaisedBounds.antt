@@ -1,5 +1,5 @@
--- Calm acts before items of which an upper bound is known: what the runs are worth is at most the forward meaning of the acts, taken
--- upward, for some choices.
+-- Calm acts before items with a known upper bound: the sum over the runs is at most the forward
+-- meaning of the acts, taken upward, for some choices.
 use Rattle.std.proofs.Common.{◌≡◌, ◌≤◌, ◌+◌, ℕ, sym, ap, subst, ◌∙◌, arith, Bool, true, false, cond, List, [], ◌∷◌}
 use Rattle.std.specs.Prelude.{set}
 use Prim.Native.Nat.{zero, suc}
@@ -43,13 +43,13 @@ use Rattle.heyvl_acts.proofs.exported.Lengths.{length_join, taken_length, pick_l
 use Rattle.heyvl_acts.proofs.exported.Tosses.{toss_fit, before_products}
 use Rattle.lower_rules.proofs.OwnVariables.{own_set, own_put}
 
--- for some choices the value is at most x
+-- `x` is at most the value of `f` for some choices.
 pub record AtMost (x : Value) (f : Choices → Value) : Type 0 where
   pub choices : Choices
   pub most : x ≤ᵛ f choices
 
 module _ (ps : List TypedProcedure) (p : ℕ) (g : Config → Value) where
-  -- a configuration of the procedure that was started
+  -- A configuration of the procedure that was started.
   abbrev pub at : List Item → List Val → (ℕ → ℕ) → Config
   at is s turns = record { procedure = p; items = is; frames = []; state = s; reward = zeroᵛ; turns = turns }
 
@@ -65,7 +65,7 @@ module _ (ps : List TypedProcedure) (p : ℕ) (g : Config → Value) where
   abbrev Spread : ℕ → Outcomes → Forest → Value
   Spread n cs ts = weighted_sum g (spread (runs ps n) cs ts)
 
-  -- from these items on, with these turns so far, at most this
+  -- The sum from these items on, with these iterations so far, is at most the value of the post.
   abbrev pub Base : List Item → (ℕ → ℕ) → Post → ℕ → Type 0
   Base is turns k need = (n : ℕ) → need ≤ n → (s : List Val) → State s → (t : Tree) → AtMost (Total n (at is s turns) t) (k (environment s))
 

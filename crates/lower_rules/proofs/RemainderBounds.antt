@@ -1,5 +1,6 @@
--- Bounds with a remainder: what has not been collected after m turns is at most the weight of the runs with more turns than m, and that is
--- at most the expected turns over m.
+-- Bounds with a remainder: the part of the weak sum that runs with at most m iterations do not
+-- contribute is at most the weight of the runs with more than m iterations, and this is at most the
+-- expected iterations over m.
 use Rattle.std.proofs.Common.{◌≡◌, ◌≤◌, ◌<◌, ◌+◌, ◌*◌, ◌==◌, ℕ, refl, sym, ap, subst, ◌∙◌, arith, Bool, true, false, cond, List, [], ◌∷◌, length, leb, ◌⊎◌, inl, inr}
 use Rattle.std.specs.Prelude.{pos, if◌then◌else◌}
 use borrow.Author.Differences.{ints}
@@ -50,7 +51,7 @@ use Rattle.lower_rules.proofs.RaisedBounds.{AtMost, Base, claims}
 use Rattle.run_laws.proofs.exported.RuledRuns.{spread_all, runs_all, fit_kept}
 use Rattle.lower_rules.proofs.CalmShapes.{before, ArePair, step_pair, IsAt, step_at, act_weighs, spread_const}
 
--- ---- Turns never fall
+-- ---- Counts of iterations do not decrease
 
 abbrev NoFewer : ℕ → ℕ → Rational × Config → Type 0
 NoFewer num k x = k ≤ x.1.turns num
@@ -118,7 +119,7 @@ module _ (ps : List TypedProcedure) (rules : Each (MeetsRules ps) ps) (p : ℕ) 
   abbrev Fit : Config → Type 0
   Fit c = ConfigFits ps p c
 
-  -- the run has ended, or has made more turns
+  -- The run has terminated, or has made more iterations.
   abbrev Done : Config → Type 0
   Done c = ConfigFits ps p c × ((c.items ≡ []) ⊎ (m < c.turns l.head.number))
 
@@ -137,7 +138,7 @@ module _ (ps : List TypedProcedure) (rules : Each (MeetsRules ps) ps) (p : ℕ) 
   ruled : OfParts (IsRuled ps (procedure_at ps p)) (procedure_at ps p) l
   ruled = ruled_parts ps (procedure_at ps p) l (each_at (MeetsRules ps) ps p rules there)
 
-  -- ---- Where more turns have been made
+  -- ---- Runs with more iterations
 
   many_kept : (c : Config) (i : Item) (is : List Item) → c.items ≡ i ∷ is → Many c → (d : Decision) → EachOutcome Many (step_item ps i is c d)
   many_kept c i is e h d = both_hold (ConfigFits ps p) l.head.number (c.turns l.head.number) m h.1 (step_item ps i is c d) (fit_kept ps rules p c i is e h.0 d) (item_turns l.head.number ps is c i d)
@@ -145,7 +146,7 @@ module _ (ps : List TypedProcedure) (rules : Each (MeetsRules ps) ps) (p : ℕ) 
   many_done : (n : ℕ) (c : Config) (t : Tree) → Many c → EachOutcome Done (runs ps n c t)
   many_done n c t h = all_more Many Done (λ e k. (k.0, inr k.1)) (runs ps n c t) (runs_all ps Many many_kept n c t h)
 
-  -- ---- Acts before items from which all runs are done
+  -- ---- Acts before items after which all runs are done
 
   abbrev AllBase : List Item → (ℕ → ℕ) → ℕ → Type 0
   AllBase is turns need = (n : ℕ) → need ≤ n → (s : List Val) → IsState (procedure_at ps p) s → (v : Value) (t : Tree) → EachOutcome Done (runs ps n (before ps p Acts.done is s v turns) t)
@@ -200,7 +201,7 @@ module _ (ps : List TypedProcedure) (rules : Each (MeetsRules ps) ps) (p : ℕ) 
   all_done : (n : ℕ) → length_of l.front + steps_from_test l.body l.behind m ≤ n → (s : List Val) → IsState (procedure_at ps p) s → (t : Tree) → EachOutcome Done (runs ps n (before ps p l.front as_act s zeroᵛ (λ k. 0)) t)
   all_done n few s st t = acts_done as_act (λ k. 0) (steps_from_test l.body l.behind m) (loop_done (λ k. 0) (omega arith)) (length_of l.front) n few l.front calm.front (same_count (length_of l.front)) s st zeroᵛ t
 
-  -- ---- Each run by itself
+  -- ---- Each run
 
   abbrev over : Config → Value
   over c = if leb (c.turns l.head.number) m then zeroᵛ else oneᵛ
@@ -230,7 +231,7 @@ module _ (ps : List TypedProcedure) (rules : Each (MeetsRules ps) ps) (p : ℕ) 
       go (inl e) = rw (e.0, *ᵛ-zero (finite (ratio (pos m) 1))) (finite_nonnegative _ (ratio_nonnegative (pos (c.turns l.head.number)) 1 (omega arith) (omega (arith, ints))))
       go (inr e) = rw (e.0, *ᵛ-one (finite (ratio (pos m) 1))) (order_finite _ _ (ratio-≤ (pos m) 1 (pos (c.turns l.head.number)) 1 (omega arith) (omega arith) (let k = e.1 in omega (arith, k, ints))))
 
-  -- ---- Turns
+  -- ---- Iterations
 
   abbrev Turns : Outcomes → Value
   Turns cs = weighted_sum (turns_in l.head.number) cs
@@ -244,7 +245,7 @@ module _ (ps : List TypedProcedure) (rules : Each (MeetsRules ps) ps) (p : ℕ) 
       ∙ (spread_const (turns_in l.head.number) (finite (ratio (pos (turns l.head.number)) 1)) (IsAt ps p (length_of_act a + length_of acts) [] turns) (runs ps n) (λ c k h. ap (λ (e : Config). Turns (runs ps n e k)) h.same ∙ still n h.acts h.calm h.state h.typed h.reward turns k) xs (under t) (step_at ps p (length_of_act a + length_of acts) [] turns a f.0 (each_first (IsCalm (procedure_at ps p)) (inside a) (in_order acts) f.1) acts (each_second (IsCalm (procedure_at ps p)) (inside a) (in_order acts) f.1) (omega arith) s st v (decision t))
       ∙ (ap (λ w. finite w *ᵛ finite (ratio (pos (turns l.head.number)) 1)) (act_weighs ps p a f.0 (push acts []) (before ps p (Acts.next a acts) [] s v turns) (decision t)) ∙ one_times _))
 
-  -- what stands behind the loop makes no turns
+  -- The acts after the loop make no iterations.
   abbrev alone : List Item
   alone = Item.turn l.head l.body ∷ []
 
@@ -277,9 +278,10 @@ module _ (ps : List TypedProcedure) (rules : Each (MeetsRules ps) ps) (p : ℕ) 
     front_turns : (n : ℕ) → length_of l.front + 0 ≤ n → (s : List Val) → IsState (procedure_at ps p) s → (t : Tree) → AtMost (weighted_sum stepped (runs ps n (before ps p l.front as_act s zeroᵛ (λ k. 0)) t)) (forward (upward l.front) (value r.1) (environment s))
     front_turns n few s st t = claims ps p stepped as_act (λ k. 0) (value r.1) 0 loop_base n l.front calm.front few s st t
 
--- ---- The whole
+-- ---- The bound
 
--- The bound with any d that gives 1 with the step times m, where the step isn't below 0.
+-- The bound with any fraction whose product with the step and `m` is 1, if the step is not
+-- negative.
 abbrev BoundedByPart : Type 0
 BoundedByPart = (ps : List TypedProcedure) (p : ℕ) → Each (MeetsRules ps) ps → p < length ps → (l : OneLoop (procedure_at ps p)) (r : Rational × Form) → zeroʳ ≤ʳ r.0 → Bound ps p → HasSmallPost (procedure_at ps p) → RankedBy ps p l.head l.body r → (s : List Val) → IsState (procedure_at ps p) s → (u : Value) → ((c : Choices) → forward (upward l.front) (value r.1) (environment s) c ≤ᵛ u)
     → (m n : ℕ) → steps l.front l.body l.behind m ≤ n → (d : Rational) → zeroʳ ≤ʳ d → d *ʳ (r.0 *ʳ ratio (pos m) 1) ≡ oneʳ → (t : Tree) → value (procedure_at ps p).pre (environment s) Choices.stop ≤ᵛ collected m l.head.number (procedure_at ps p).post (runs ps n (begin ps p s) t) +ᵛ (finite d *ᵛ u)

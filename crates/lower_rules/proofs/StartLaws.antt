@@ -1,5 +1,5 @@
--- The goal of a remainder holds exactly where the bound is at least what the acts make of the ranking; it is a goal, and has few nodes
--- and variables.
+-- The goal of a remainder holds exactly if the bound is at least the pre-expectation of the ranking
+-- over the acts; it is a goal, with few nodes and variables.
 use Rattle.std.proofs.Common.{◌≡◌, ◌^◌, ℕ, sym, subst, arith, true, List, length, take}
 use Rattle.std.proofs.lemmas.List.{length-append, length-map}
 use Rattle.heyvl_num.specs.Rational.{Rational}

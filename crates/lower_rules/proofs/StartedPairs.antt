@@ -1,4 +1,4 @@
--- What is decided of the parts that the program lends of a remainder pair.
+-- The decision for the borrowed parts of a remainder pair.
 use Rattle.std.proofs.Common.{◌<◌, ◌^◌, ℕ, sym, subst, List, [], ◌∷◌, length}
 use Rattle.std.specs.Prelude.{Result, IfOk}
 use Rattle.std.specs.declared.alloc.AllocError.{AllocError}
@@ -75,6 +75,5 @@ module _ (typed : Typed) (p q : ℕ) (parts : RankedParts) (all : MeetsAllRules 
   pub is_started : GeneratedFormMeansActs → GeneratedFormIsOver → PrenexedGoalsSpeakOfChoices → PrenexedGoalsFailByChoices → (r : Result Decision AllocError) → IfOk r (λ d. IsDecidedWithin (start_goal one front rank other.pre) (found ∷ []) d) → IfOk r (λ d. Tells (start_goal one front rank other.pre) d) → IfOk r (λ d. IsStarted one other front rank d)
   is_started means over speak failing r h k = both_ok (λ d. IsDecidedWithin (start_goal one front rank other.pre) (found ∷ []) d) (λ d. Tells (start_goal one front rank other.pre) d) (λ d. IsStarted one other front rank d) r (λ d i j. record { decided = i; tells = tells means over speak failing d j }) h k
 
--- What is decided of the parts is decided of the pair.
 pub started_as : (p q : TypedProcedure) (parts : RankedParts) (is : IsPairAs p q parts) (d : Decision) → IsStarted p q (acts_of parts.front.now) (parts.step, form_of parts.ranking.now) d → IsStarted p q is.pair.loop.front is.pair.rank d
 started_as p q parts is d h = subst (λ acts. IsStarted p q acts is.pair.rank d) (sym is.front) (subst (λ r. IsStarted p q (acts_of parts.front.now) r d) (sym is.rank) h)

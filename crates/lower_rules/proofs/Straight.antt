@@ -1,5 +1,5 @@
--- Calm acts before items of which a lower bound is known: what the runs have collected is at least the forward meaning of the acts, for
--- some choices.
+-- Calm acts before items with a known lower bound: the expected post of the terminated runs is at
+-- least the forward meaning of the acts, for some choices.
 use Rattle.std.proofs.Common.{◌≡◌, ◌≤◌, ◌+◌, ℕ, sym, ap, subst, ◌∙◌, arith, Bool, true, false, cond, List, [], ◌∷◌}
 use Rattle.std.specs.Prelude.{set}
 use Prim.Native.Nat.{zero, suc}
@@ -42,13 +42,13 @@ use Rattle.heyvl_acts.proofs.exported.Tosses.{toss_fit, before_products}
 use Rattle.heyvl_acts.proofs.exported.UpwardMeaning.{forward_join, taken_meaning}
 use Rattle.lower_rules.proofs.OwnVariables.{own_set, own_put}
 
--- for some choices the value is at most x
+-- `x` is at least the value of `f` for some choices.
 pub record AtLeast (x : Value) (f : Choices → Value) : Type 0 where
   pub choices : Choices
   pub least : f choices ≤ᵛ x
 
 module _ (ps : List TypedProcedure) (p : ℕ) (g : Config → Value) where
-  -- a configuration of the procedure that was started
+  -- A configuration of the procedure that was started.
   abbrev pub at : List Item → List Val → Value → (ℕ → ℕ) → Config
   at is s v turns = record { procedure = p; items = is; frames = []; state = s; reward = v; turns = turns }
 
@@ -64,7 +64,7 @@ module _ (ps : List TypedProcedure) (p : ℕ) (g : Config → Value) where
   abbrev Spread : ℕ → Outcomes → Forest → Value
   Spread n cs ts = weighted_sum g (spread (runs ps n) cs ts)
 
-  -- from these items on, with these turns so far, at least this
+  -- The sum from these items on, with these iterations so far, is at least the value of the post.
   abbrev pub Base : List Item → (ℕ → ℕ) → Post → ℕ → Type 0
   Base is turns k need = (n : ℕ) → need ≤ n → (s : List Val) → State s → (v : Value) (t : Tree) → AtLeast (Total n (at is s v turns) t) (k (environment s))
 

@@ -1,4 +1,4 @@
--- The answer that is told of a pair's goals is the one that the pair gets, and keeps what it promises.
+-- The answer for the decisions of a pair's goals is the answer on the pair, and keeps its promise.
 use Rattle.std.proofs.Common.{◌≡◌, ◌∙◌, ◌<◌, ℕ, refl, sym, subst, arith, List, length}
 use Rattle.std.proofs.lemmas.List.{length-map}
 use Rattle.std.specs.Prelude.{Vec}
@@ -34,7 +34,6 @@ use Rattle.lower_goals.proofs.exported.ReadyPairs.{the_loop}
 
 -- ---- Goal by goal
 
--- The answer goal by goal is the one that is told.
 pub told_by_goals : (one base turn : Decision) → both (answer_of One one) (both (answer_of Base base) (answer_of Turn turn)) ≡ told one base turn
 told_by_goals (decision.Proved a) (decision.Proved b) (decision.Proved c) = refl
 told_by_goals (decision.Proved a) (decision.Proved b) (decision.Falsified c) = refl
@@ -52,9 +51,10 @@ told_by_goals (decision.Unknown a) (decision.Unknown b) (decision.Proved c) = re
 told_by_goals (decision.Unknown a) (decision.Unknown b) (decision.Falsified c) = refl
 told_by_goals (decision.Unknown a) (decision.Unknown b) (decision.Unknown c) = refl
 
--- ---- What is known of a pair
+-- ---- Conditions on a pair
 
--- The procedures are an omega pair, and this is decided of its goals, which tells of their states.
+-- The procedures are an omega pair, and the answer is that for the decisions of its goals, with
+-- their meaning over states.
 record AreDecided (p q : TypedProcedure) (answer : Omega) : Type 0 where
   pub pair : OmegaPair p q
   pub one : Decision
@@ -91,7 +91,6 @@ at_numbers ps p q x answer e f d = subst (λ (a : TypedProcedure). AreDecided a 
 is_told : (p q : TypedProcedure) (answer : Omega) → AreDecided p q answer → IsTold p q answer
 is_told p q answer d = record { pair = d.pair; one = d.one; base = d.base; turn = d.turn; one_is = d.one_is; base_is = d.base_is; turn_is = d.turn_is; is_told = d.is_told }
 
--- no goals tell that the procedures are no pair
 not_shape : (one base turn : Decision) → reply.Shape ≡ told one base turn → ⊥
 not_shape one base turn e = go (both (answer_of One one) (both (answer_of Base base) (answer_of Turn turn))) (told_by_goals one base turn) (shaped one base turn)
   where
@@ -147,7 +146,6 @@ module _ (typed : Typed) (p q : ℕ) (x : Pair) (at : IsPairAt typed p q x) wher
     second_rules : MeetsRules (procedures_of typed) (procedure_at (procedures_of typed) q)
     second_rules = each_at (MeetsRules (procedures_of typed)) (procedures_of typed) q rules.each (let c = count in omega (arith, c, there))
 
-    -- where all is proved, the goals hold
     proved : (one base turn : Decision) → reply.Holds ≡ told one base turn → (a b : Goal) → Tells a base → Tells b turn → Holds a × Holds b
     proved (decision.Proved x) (decision.Proved y) (decision.Proved z) e a b f g = (f, g)
     proved (decision.Proved x) (decision.Proved y) (decision.Falsified z) e a b f g = absurd (cc)
@@ -184,7 +182,6 @@ module _ (typed : Typed) (p q : ℕ) (x : Pair) (at : IsPairAt typed p q x) wher
         in_answer reply.Shape = Unit {0}
         in_answer (reply.Unknown j c) = Unit {0}
 
-    -- the goal that is told to fail does so
     failing : (one base turn : Decision) (step : Step) (s : Vec Val Global) → reply.Fails step s ≡ told one base turn → (g : Step → Goal) → Tells (g One) one → Tells (g Base) base → Tells (g Turn) turn → Fails (g step) s.items
     failing (decision.Falsified a) b c step s e g f h i = same One step a s (sym e) g f
     failing (decision.Proved a) (decision.Falsified b) c step s e g f h i = same Base step b s (sym e) g h

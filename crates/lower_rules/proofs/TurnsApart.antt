@@ -1,4 +1,4 @@
--- The acts of a weak proc with one loop have nothing to do with the number of turns.
+-- The acts of a proc with `@wlp` and one loop do not use the number of iterations.
 use Rattle.std.proofs.Common.{◌≡◌, ◌<◌, ◌==◌, ℕ, refl, arith, Bool, true, false, List, [], ◌∷◌}
 use Rattle.std.proofs.Math.ListN.{length}
 use Rattle.heyvl_num.specs.Rational.{Rational}
@@ -14,7 +14,6 @@ use Rattle.vp_generator.specs.Over.{TermIsOver, PartsAreOver}
 use Rattle.lower_rules.proofs.Apart.{LacksAct, LacksTerm, LacksParts, Lacks, ArmsLack}
 use Rattle.lower_goals.proofs.exported.TurnActs.{IsTurnAct, free_occurs, free_occurs_in}
 
--- the variable behind the first n isn't free in what is over these
 pub over_lacks : (n : ℕ) (f : Form) → IsOver n f → is_free n f ≡ false
 over_lacks n f o = go (is_free n f) refl
   where

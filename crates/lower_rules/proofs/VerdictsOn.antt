@@ -1,4 +1,5 @@
--- The answer on a procedure, by its place among the answers; and whether one of its lines says that a loop is ranked.
+-- The answer on a procedure, by its index among the answers; and whether one of its answers on
+-- loops is that the loop is ranked.
 use Rattle.std.proofs.Common.{◌≡◌, ◌∙◌, ◌<◌, ℕ, refl, sym, ap, ap₂, subst, arith, Bool, true, false, List, [], ◌∷◌, ◌++◌, length, get_or, ◌==◌}
 use Rattle.std.proofs.lemmas.List.Folds.{list_any_at}
 use Rattle.std.specs.List.{Contains, list_any}
@@ -13,7 +14,7 @@ use Rattle.verdict_report.specs.declared.answers.Verdict.TheVariants as verdict
 use Rattle.verdict_report.specs.VerdictsOn.{IsVerdictOn, IsVerdictOnLoop}
 use Rattle.lower_rules.specs.internal.Said.{ranks, says_ranked, says_verified}
 
--- ---- The answer at a place
+-- ---- The answer at an index
 
 record IsPlaced (answers : List Answer) (p : ℕ) (a : Answer) : Type 0 where
   pub before : List Answer
@@ -28,7 +29,6 @@ placed (b ∷ rest) (suc p) a lt is =
     let k = placed rest p a (omega (arith, lt)) is in
     record { before = b ∷ k.before; behind = k.behind; all = ap (λ l. b ∷ l) k.all; place = let e = k.place in omega (arith, e) }
 
--- There is no other one there.
 only_one : (before behind : List Answer) (p : ℕ) (a b : Answer) → length before ≡ p → a ≡ get_or (before ++ (b ∷ behind)) p a → a ≡ b
 only_one [] behind zero a b e is = is
 only_one [] behind (suc p) a b e is = absurd (omega (arith, e))
@@ -64,7 +64,7 @@ ranked_is (rank.NotRanked s) e = absurd (cc)
 ranked_is (rank.Unknown c) e = absurd (cc)
 ranked_is (rank.Unchecked miss) e = absurd (cc)
 
--- A line that says so is in the list.
+-- The list has an answer that the loop `n` is ranked.
 pub record IsRankedBy (loops : List LoopAnswer) (n : ℕ) : Type 0 where
   pub line : LoopAnswer
   pub listed : Contains loops line

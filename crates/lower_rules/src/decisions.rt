@@ -1,4 +1,4 @@
-//! What is decided of a goal that was made.
+//! Decisions of goals within limits.
 
 ghost use Rattle.heylo_formula.specs.Formula.{Form as plain_form};
 ghost use Rattle.heylo_formula.specs.Goals.{Goal as plain_goal};
@@ -13,11 +13,13 @@ use heylo_formula::Made;
 use region_split::decide;
 use std::alloc::{AllocError, Global};
 
-/// The decision of a goal; where there is none, nothing is known for the limit that one of its forms passes.
+/// Returns the decision of the goal, or `Unknown` with the limit that one of its forms exceeds.
 pub(crate) fn decided(alloc: Global, made: &Made) -> Result<Decision, AllocError>
     requires { CanDecide made.now }
-    ensures decision { (g : plain_goal) (forms : List plain_form) → IsMadeFor g forms made.now → IfOk result (λ d. IsDecidedWithin g forms d) }
-    ensures meaning { (g : plain_goal) (forms : List plain_form) → IsMadeFor g forms made.now → IfOk result (λ d. Tells g d) }
+    ensures decision { (g : plain_goal) (forms : List plain_form) → IsMadeFor g forms made.now
+        → IfOk result (λ d. IsDecidedWithin g forms d) }
+    ensures meaning { (g : plain_goal) (forms : List plain_form) → IsMadeFor g forms made.now
+        → IfOk result (λ d. Tells g d) }
 {
     match made {
         Made::Goal(goal) => decide(alloc, goal),

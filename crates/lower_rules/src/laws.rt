@@ -1,14 +1,16 @@
-//! The laws. Each function does nothing: its contract is the law.
+//! Laws of lower bounds. Each function does nothing: its contract is the law.
 
 ghost use Rattle.lower_rules.specs.Omega.{OmegaBoundsRuns};
 ghost use Rattle.lower_rules.specs.Remainder.{RemainderBoundsRuns};
 
-/// An omega invariant bounds from below what ended runs of few turns collect.
+/// States that an omega invariant is a lower bound on the expected post of the runs that terminate
+/// within few iterations.
 pub fn omega_bounds_runs()
     ensures { OmegaBoundsRuns }
 {}
 
-/// What ended runs of few turns collect, but for a remainder, of a weak proc whose bound holds and whose loop is ranked.
+/// States the lower bound with a remainder, for a proc with `@wlp` whose bound holds and whose loop
+/// is ranked.
 pub fn remainder_bounds_runs()
     ensures { RemainderBoundsRuns }
 {}

@@ -1,4 +1,7 @@
-//! Lower bounds of weak procs with one loop: what ended runs of few turns collect.
+//! Lower bounds of procs with `@wlp` and one loop, on the expected post of the runs that terminate
+//! within few iterations.
+//!
+//! `AllocError` means that memory ran out.
 #![tactic(auto)]
 
 mod decisions;

@@ -1,4 +1,4 @@
-//! Whether a formula is an omega invariant of the loop of a weak proc.
+//! Omega invariants of the loop of a proc with `@wlp`.
 
 ghost use Rattle.heyvl_acts.specs.FormSizes.{FormsWithin};
 ghost use Rattle.heyvl_acts.specs.PlainActs.{procedures_of};
@@ -21,19 +21,21 @@ use vp_generator::{
     generated_form_means_acts, prenexed_form_means_choices, prenexed_goals_speak_of_choices,
 };
 
-/// Whether the pre of the second procedure is an omega invariant of the loop of the first one: for each number of turns a lower bound
-/// of what runs collect that have ended with at most so many turns.
+/// Decides whether the pre of the procedure `q` is an omega invariant of the loop of `p`: for each
+/// m, a lower bound on the expected post of the runs that terminate within m iterations. Returns
 ///
-/// Both are numbers of procedures of the file. Shape comes exactly where they are no omega pair; Fails where one of the three goals
-/// is falsified, for the first one and with its state; Unknown where none is falsified and nothing is known of some, for the first one
-/// and with its cause. Want of memory is the one error.
+/// - `Shape` exactly if the procedures are no omega pair;
+/// - `Fails` with the first of the three goals that is falsified, and a state;
+/// - `Unknown`, if none is falsified, with the first goal that is not decided, and its cause;
+/// - `Holds` if all goals are proved.
 pub fn omega(alloc: Global, typed: &Typed, p: u32, q: u32) -> Result<Omega, AllocError>
     requires first { p < length typed.now.procs.items }
     requires second { q < length typed.now.procs.items }
     requires rules { MeetsAllRules typed.now }
     requires small { Each (FormsWithin (2 ^ 27)) (procedures_of typed.now) }
     ensures answer { IfOk result (λ answer. IsOmegaAnswer (procedures_of typed.now) p q answer) }
-    ensures bound { IfOk result (λ answer. answer ≡ Holds → OmegaHolds (procedures_of typed.now) p q) }
+    ensures bound { IfOk result (λ answer. answer ≡ Holds
+        → OmegaHolds (procedures_of typed.now) p q) }
     ensures shown { IfOk result (λ answer. ShownStateFails (procedures_of typed.now) p q answer) }
 {
     omega_bounds_runs();
@@ -46,7 +48,7 @@ pub fn omega(alloc: Global, typed: &Typed, p: u32, q: u32) -> Result<Omega, Allo
     }
 }
 
-/// The answer on a pair: all its goals are decided.
+/// Returns the answer on a pair, after deciding all its goals.
 fn answer_on<'a>(alloc: Global, pair: &Pair<'a>) -> Result<Omega, AllocError>
     requires ready { IsReady pair.now }
     ensures { IfOk result (λ answer. IsToldOf pair.now answer) }
@@ -58,7 +60,7 @@ fn answer_on<'a>(alloc: Global, pair: &Pair<'a>) -> Result<Omega, AllocError>
     Ok(both(answer_of(Step::One, one), behind))
 }
 
-/// What is decided of the goal of a step.
+/// Returns the decision of the goal of a step.
 fn decided_step<'a>(alloc: Global, pair: &Pair<'a>, step: Step) -> Result<Decision, AllocError>
     requires { IsReady pair.now }
     ensures { IfOk result (λ d. IsStep pair.now step d) }

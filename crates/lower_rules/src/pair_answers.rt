@@ -1,4 +1,4 @@
-//! The answer on a pair, goal by goal.
+//! The answer on an omega pair, goal by goal.
 
 ghost use Rattle.lower_rules.specs.internal.PairAnswers.{answer_of, both, unless_fails};
 ghost use Rattle.std.specs.Prelude.{◌≡◌};
@@ -6,7 +6,7 @@ ghost use Rattle.std.specs.Prelude.{◌≡◌};
 use goal_answers::{Cause, Decision};
 use lower_goals::{Omega, Step};
 
-/// The answer by one goal alone.
+/// Returns the answer for one goal alone.
 pub(crate) fn answer_of(step: Step, decision: Decision) -> Omega
     ensures { result ≡ answer_of step decision }
 {
@@ -17,7 +17,7 @@ pub(crate) fn answer_of(step: Step, decision: Decision) -> Omega
     }
 }
 
-/// The answer by some goals and by those behind them.
+/// Returns the answer for some goals and for those after them.
 pub(crate) fn both(before: Omega, behind: Omega) -> Omega
     ensures { result ≡ both before behind }
 {
@@ -29,7 +29,7 @@ pub(crate) fn both(before: Omega, behind: Omega) -> Omega
     }
 }
 
-/// Nothing is known of a goal, unless one behind it is falsified.
+/// Returns the answer `Unknown` for a goal, unless a later goal is falsified.
 fn unless_fails(step: Step, cause: Cause, behind: Omega) -> Omega
     ensures { result ≡ unless_fails step cause behind }
 {

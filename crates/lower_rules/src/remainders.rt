@@ -6,7 +6,8 @@ ghost use Rattle.heyvl_acts.specs.FormSizes.{FormsWithin};
 ghost use Rattle.heyvl_acts.specs.PlainActs.{acts_of, procedures_of};
 ghost use Rattle.heyvl_acts.specs.Program.{IsProgram};
 ghost use Rattle.heyvl_acts.specs.Rules.{Each, MeetsAllRules};
-ghost use Rattle.lower_rules.specs.RemainderAnswers.{HasBoundedTurns, HasSmallBound, IsPromised, IsRemainderAnswer};
+ghost use Rattle.lower_rules.specs.RemainderAnswers.{HasBoundedTurns, HasSmallBound, IsPromised};
+ghost use Rattle.lower_rules.specs.RemainderAnswers.{IsRemainderAnswer};
 ghost use Rattle.verdict_report.specs.VerdictsOn.{IsVerdictOn, IsVerdictOnLoop};
 ghost use Rattle.lower_goals.specs.LentRemainderPairs.{IsPairAs};
 ghost use Rattle.lower_rules.specs.internal.StartDecisions.{IsStarted, answer_by};
@@ -27,10 +28,15 @@ use std::alloc::{AllocError, Global};
 use verdict_report::Answer;
 use vp_generator::{generated_form_means_acts, prenexed_goals_speak_of_choices};
 
-/// What is found of the procedures p and q as a remainder pair, where these are the answers of the file, of which only what they say of a
-/// weak program p that is verified, and of loops that are ranked, has to be true: Shape where they are none;
-/// else NotVerified where p isn't verified; else NotRanked where its loop isn't ranked; else by the goal that q's pre, over p's
-/// inputs, is at least what the acts before the loop, taken upward, make of the ranking. Want of memory is the one error.
+/// Decides whether the procedures `p` and `q` give a lower bound with a remainder. `answers` are
+/// the answers on the file. Of these, the verdicts `Verified` of a program `p` with `@wlp` and
+/// `Ranked` of its loops have to be true. Returns
+///
+/// - `Shape` if they are no remainder pair;
+/// - else `NotVerified` if `p` is not verified;
+/// - else `NotRanked` if the loop of `p` is not ranked;
+/// - otherwise the decision of the goal that the pre of `q`, over the inputs of `p`, is at least
+///   the pre-expectation of the ranking over the acts before the loop, taken upward.
 pub fn remainder(
     alloc: Global,
     typed: &Typed,
@@ -43,9 +49,14 @@ pub fn remainder(
     requires rules { MeetsAllRules typed.now }
     requires small { Each (FormsWithin (2 ^ 27)) (procedures_of typed.now) }
     requires each { length answers.now ≡ length typed.now.procs.items }
-    requires verified { IsVerdictOn answers.now p Verified → (procedure_at (procedures_of typed.now) p).weak ≡ true → IsProgram (procedure_at (procedures_of typed.now) p) → HasSmallBound (procedures_of typed.now) p }
-    requires ranked { (n : ℕ) → IsVerdictOnLoop answers.now p n Ranked → HasBoundedTurns (procedures_of typed.now) p n }
-    ensures answer { IfOk result (λ answer. IsRemainderAnswer (procedures_of typed.now) answers.now p q answer) }
+    requires verified { IsVerdictOn answers.now p Verified
+        → (procedure_at (procedures_of typed.now) p).weak ≡ true
+        → IsProgram (procedure_at (procedures_of typed.now) p)
+        → HasSmallBound (procedures_of typed.now) p }
+    requires ranked { (n : ℕ) → IsVerdictOnLoop answers.now p n Ranked
+        → HasBoundedTurns (procedures_of typed.now) p n }
+    ensures answer { IfOk result
+        (λ answer. IsRemainderAnswer (procedures_of typed.now) answers.now p q answer) }
     ensures bound { IfOk result (λ answer. IsPromised (procedures_of typed.now) p q answer) }
 {
     match pair_of(typed, p, q) {
@@ -54,7 +65,7 @@ pub fn remainder(
     }
 }
 
-/// The same for a remainder pair.
+/// Returns the answer on a remainder pair.
 fn of_pair<'a>(
     alloc: Global,
     typed: &Typed,
@@ -68,10 +79,16 @@ fn of_pair<'a>(
     requires rules { MeetsAllRules typed.now }
     requires small { Each (FormsWithin (2 ^ 27)) (procedures_of typed.now) }
     requires each { length answers.now ≡ length typed.now.procs.items }
-    requires pair { IsPairAs (procedure_at (procedures_of typed.now) p) (procedure_at (procedures_of typed.now) q) parts.now }
-    requires verified { IsVerdictOn answers.now p Verified → (procedure_at (procedures_of typed.now) p).weak ≡ true → IsProgram (procedure_at (procedures_of typed.now) p) → HasSmallBound (procedures_of typed.now) p }
-    requires ranked { (n : ℕ) → IsVerdictOnLoop answers.now p n Ranked → HasBoundedTurns (procedures_of typed.now) p n }
-    ensures answer { IfOk result (λ answer. IsRemainderAnswer (procedures_of typed.now) answers.now p q answer) }
+    requires pair { IsPairAs (procedure_at (procedures_of typed.now) p)
+        (procedure_at (procedures_of typed.now) q) parts.now }
+    requires verified { IsVerdictOn answers.now p Verified
+        → (procedure_at (procedures_of typed.now) p).weak ≡ true
+        → IsProgram (procedure_at (procedures_of typed.now) p)
+        → HasSmallBound (procedures_of typed.now) p }
+    requires ranked { (n : ℕ) → IsVerdictOnLoop answers.now p n Ranked
+        → HasBoundedTurns (procedures_of typed.now) p n }
+    ensures answer { IfOk result
+        (λ answer. IsRemainderAnswer (procedures_of typed.now) answers.now p q answer) }
     ensures bound { IfOk result (λ answer. IsPromised (procedures_of typed.now) p q answer) }
 {
     if !is_verified(answers, p) {
@@ -83,7 +100,8 @@ fn of_pair<'a>(
     of_ranked(alloc, typed, p, q, parts)
 }
 
-/// The same for a remainder pair whose first procedure is verified, and whose loop is ranked.
+/// Returns the answer on a remainder pair whose first procedure is verified and whose loop is
+/// ranked.
 fn of_ranked<'a>(
     alloc: Global,
     typed: &Typed,
@@ -95,17 +113,20 @@ fn of_ranked<'a>(
     requires second { q < length typed.now.procs.items }
     requires rules { MeetsAllRules typed.now }
     requires small { Each (FormsWithin (2 ^ 27)) (procedures_of typed.now) }
-    requires pair { IsPairAs (procedure_at (procedures_of typed.now) p) (procedure_at (procedures_of typed.now) q) parts.now }
+    requires pair { IsPairAs (procedure_at (procedures_of typed.now) p)
+        (procedure_at (procedures_of typed.now) q) parts.now }
     requires verified { HasSmallBound (procedures_of typed.now) p }
     requires ranked { HasBoundedTurns (procedures_of typed.now) p parts.now.number }
-    ensures answer { (answers : List plain_answer) → IsVerdictOn answers p Verified → IsVerdictOnLoop answers p parts.now.number Ranked → IfOk result (λ answer. IsRemainderAnswer (procedures_of typed.now) answers p q answer) }
+    ensures answer { (answers : List plain_answer) → IsVerdictOn answers p Verified
+        → IsVerdictOnLoop answers p parts.now.number Ranked
+        → IfOk result (λ answer. IsRemainderAnswer (procedures_of typed.now) answers p q answer) }
     ensures bound { IfOk result (λ answer. IsPromised (procedures_of typed.now) p q answer) }
 {
     let decision = started(alloc, typed, p, q, parts)?;
     Ok(answer_by(parts.step, decision))
 }
 
-/// The decision of a remainder pair's goal.
+/// Returns the decision of a remainder pair's goal.
 fn started<'a>(
     alloc: Global,
     typed: &Typed,
@@ -117,8 +138,12 @@ fn started<'a>(
     requires second { q < length typed.now.procs.items }
     requires rules { MeetsAllRules typed.now }
     requires small { Each (FormsWithin (2 ^ 27)) (procedures_of typed.now) }
-    requires pair { IsPairAs (procedure_at (procedures_of typed.now) p) (procedure_at (procedures_of typed.now) q) parts.now }
-    ensures { IfOk result (λ d. IsStarted (procedure_at (procedures_of typed.now) p) (procedure_at (procedures_of typed.now) q) (acts_of parts.now.front.now) (parts.now.step, form_of parts.now.ranking.now) d) }
+    requires pair { IsPairAs (procedure_at (procedures_of typed.now) p)
+        (procedure_at (procedures_of typed.now) q) parts.now }
+    ensures { IfOk result (λ d.
+        IsStarted (procedure_at (procedures_of typed.now) p)
+        (procedure_at (procedures_of typed.now) q) (acts_of parts.now.front.now)
+        (parts.now.step, form_of parts.now.ranking.now) d) }
 {
     generated_form_means_acts();
     prenexed_goals_speak_of_choices();
@@ -126,7 +151,7 @@ fn started<'a>(
     decided(alloc, &made)
 }
 
-/// What a decision of the goal answers.
+/// Returns the answer for a decision of the goal.
 fn answer_by(step: Frac, decision: Decision) -> Remainder
     ensures { result ≡ answer_by step decision }
 {

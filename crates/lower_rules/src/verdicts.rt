@@ -1,4 +1,4 @@
-//! What answers say of one procedure, and of one of its loops.
+//! Verdicts on a procedure and on one of its loops.
 
 ghost use Rattle.verdict_report.specs.VerdictsOn.{IsVerdictOn, IsVerdictOnLoop};
 ghost use Rattle.lower_rules.specs.internal.Said.{ranks, says_ranked, says_verified};
@@ -9,7 +9,7 @@ ghost use Rattle.verdict_report.specs.declared.answers.Verdict.TheVariants.{Veri
 
 use verdict_report::{Answer, LoopAnswer, RankVerdict, Verdict};
 
-/// Whether the verdict on the procedure with the number p is that its bound is verified.
+/// Returns whether the bound of the procedure `p` is verified.
 pub(crate) fn is_verified(answers: &[Answer], p: u32) -> bool
     requires { p < length answers.now }
     ensures yes { result ≡ true → IsVerdictOn answers.now p Verified }
@@ -24,7 +24,7 @@ fn says_verified(verdict: &Verdict) -> bool
     matches!(verdict, Verdict::Verified)
 }
 
-/// Whether the verdict on the ranking of the loop with this number, in the procedure with the number p, is that it is proved.
+/// Returns whether the ranking of the loop `number` of the procedure `p` is proved.
 pub(crate) fn is_ranked(answers: &[Answer], p: u32, number: u32) -> bool
     requires { p < length answers.now }
     ensures yes { result ≡ true → IsVerdictOnLoop answers.now p number Ranked }

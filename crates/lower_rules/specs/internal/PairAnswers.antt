@@ -1,4 +1,4 @@
--- The answer, goal by goal.
+-- The answer on an omega pair, goal by goal.
 use Rattle.goal_answers.specs.declared.causes.Cause.{Cause}
 use Rattle.goal_answers.specs.declared.decisions.Decision.{Decision}
 use Rattle.goal_answers.specs.declared.decisions.Decision.TheVariants as decision
@@ -6,7 +6,8 @@ use Rattle.lower_goals.specs.declared.answers.Omega.{Omega}
 use Rattle.lower_goals.specs.declared.answers.Omega.TheVariants.{Holds, Fails, Unknown, Shape}
 use Rattle.lower_goals.specs.declared.answers.Step.{Step}
 
--- By one goal alone.
+-- `answer_of`: the answer for one goal alone. `unless_fails`: the answer `Unknown` for a goal,
+-- unless a later goal is falsified.
 abbrev pub answer_of : Step → Decision → Omega
 answer_of step (decision.Proved t) = Holds
 answer_of step (decision.Falsified s) = Fails step s
@@ -18,7 +19,7 @@ unless_fails step c Holds = Unknown step c
 unless_fails step c (Unknown other d) = Unknown step c
 unless_fails step c Shape = Unknown step c
 
--- By some goals and those behind them.
+-- The answer for some goals and for those after them.
 abbrev pub both : Omega → Omega → Omega
 both Holds o = o
 both Shape o = Shape

@@ -1,4 +1,4 @@
--- What is decided of the goals of an omega pair.
+-- Decisions of the goals of an omega pair.
 use Rattle.std.specs.Prelude.{◌≡◌}
 use Rattle.region_split.specs.Meanings.{Tells}
 use Rattle.goal_answers.specs.declared.decisions.Decision.{Decision}
@@ -12,12 +12,13 @@ use Rattle.lower_goals.specs.declared.answers.Step.TheVariants.{One, Base, Turn}
 use Rattle.lower_goals.specs.declared.pairs.Pair.{Pair}
 use Rattle.lower_goals.specs.LentOmegaPairs.{first, head, body, behind, second}
 
--- This is decided of the goal of a step, and tells of its states.
+-- `d` is the decision of the goal of the step, with its meaning over states.
 pub record IsStep (x : Pair) (step : Step) (d : Decision) : Type 0 where
-  pub decided : IsDecidedWithin (step_goal (first x) (head x) (body x) (behind x) (second x) step) (limited (first x) (body x) (behind x) (formula_of (first x) (head x) (second x)) step) d
+  pub decided : IsDecidedWithin (step_goal (first x) (head x) (body x) (behind x) (second x) step)
+      (limited (first x) (body x) (behind x) (formula_of (first x) (head x) (second x)) step) d
   pub tells : Tells (step_goal (first x) (head x) (body x) (behind x) (second x) step) d
 
--- The answer is told by what is decided of the three goals.
+-- The answer is that for the decisions of the three goals.
 pub record IsToldOf (x : Pair) (answer : Omega) : Type 0 where
   pub one : Decision
   pub base : Decision

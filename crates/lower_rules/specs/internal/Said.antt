@@ -1,4 +1,4 @@
--- What an answer's verdict says, and what a line on a loop says.
+-- Tests of verdicts.
 use Rattle.std.specs.Prelude.{ℕ, Bool, true, false, ◌&&◌, ◌==◌}
 use Rattle.verdict_report.specs.declared.answers.LoopAnswer.{LoopAnswer}
 use Rattle.verdict_report.specs.declared.answers.RankVerdict.{RankVerdict}
@@ -23,6 +23,6 @@ says_ranked (rank.NotRanked s) = false
 says_ranked (rank.Unknown c) = false
 says_ranked (rank.Unchecked miss) = false
 
--- Whether the line says of the loop n that its ranking is proved.
+-- Whether the answer is on the loop `n`, and its ranking is proved.
 abbrev pub ranks : ℕ → LoopAnswer → Bool
 ranks n l = (l.number == n) && says_ranked l.rank
