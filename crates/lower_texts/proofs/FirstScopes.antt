@@ -42,10 +42,8 @@ straight_scope (Acts.next (Act.pick up a d span) rest) h b behind plain = straig
 straight_scope (Acts.next (Act.check kind f span) rest) h b behind plain = straight_scope rest h b behind plain.1
 straight_scope (Acts.next (Act.validate co span) rest) h b behind plain = straight_scope rest h b behind plain.1
 
--- The first loop of a procedure with one loop is this loop.
 pub one_scope : (p : TypedProcedure) (l : OneLoop p) → first_scope (acts_in p.body) ≡ l.head.scope
 one_scope p l = let is = l.is in ap first_scope is.whole ∙ straight_scope l.front l.head l.body l.behind is.plain_front
 
--- What is shown of a procedure is shown of an equal one.
 pub shown_as : (p q : TypedProcedure) (shown : List ℕ) → p ≡ q → ((l : OneLoop q) → shown ≡ places q l.head) → (l : OneLoop p) → shown ≡ places p l.head
 shown_as p q shown e h = subst (λ (a : TypedProcedure). (l : OneLoop a) → shown ≡ places a l.head) (sym e) h

@@ -1,4 +1,4 @@
--- The procedures of a file that meets the rules, as the program holds them.
+-- The procedures of a file that satisfies the static rules, as the program holds them.
 use Prim.Native.Nat.{suc, zero}
 use Rattle.heyvl_acts.specs.Acts.{TypedProcedure, procedure_at, variables}
 use Rattle.heyvl_acts.specs.PlainActs.{procedure_of, procedures_of, variable_of}
@@ -13,7 +13,6 @@ procedure_is [] p x lt is = absurd (omega (arith, lt))
 procedure_is (y ∷ rest) zero x lt is = ap procedure_of (sym is)
 procedure_is (y ∷ rest) (suc p) x lt is = procedure_is rest p x (omega (arith, lt)) is
 
--- The variables of the procedure are those that the program holds, in their order.
 pub variables_held : (p : TProc) → variables (procedure_of p) ≡ map variable_of p.vars.items
 variables_held p =
     let held = map variable_of p.vars.items in
@@ -28,7 +27,6 @@ rules_at ps [] p h lt = absurd (omega (arith, lt))
 rules_at ps (y ∷ rest) zero h lt = h.0
 rules_at ps (y ∷ rest) (suc p) h lt = rules_at ps rest p h.1 (omega (arith, lt))
 
--- They are few.
 pub few_variables : (typed : Typed) (p : ℕ) (x : TProc) → MeetsAllRules typed → p < length typed.procs.items → x ≡ get_or typed.procs.items p x → length x.vars.items < 2 ^ 31
 few_variables typed p x rules lt is =
     let r : MeetsRules (procedures_of typed) (procedure_at (procedures_of typed) p) = rules_at (procedures_of typed) (procedures_of typed) p rules.each (subst (λ n. p < n) (sym (length-map typed.procs.items procedure_of)) lt) in
@@ -36,6 +34,5 @@ few_variables typed p x rules lt is =
     let same = as_many x in
     omega (arith, few, same)
 
--- The procedure that the program holds has the name of the file's.
 pub name_is : (typed : Typed) (p : ℕ) (x : TProc) → p < length typed.procs.items → x ≡ get_or typed.procs.items p x → x.name ≡ (procedure_at (procedures_of typed) p).name
 name_is typed p x lt is = ap (λ (y : TypedProcedure). y.name) (sym (procedure_is typed.procs.items p x lt is))

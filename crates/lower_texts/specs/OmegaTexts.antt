@@ -1,4 +1,4 @@
--- What is written of an omega pair. The texts are this project's own.
+-- The texts of answers on omega pairs. This project's own.
 use Rattle.goal_answers.specs.declared.causes.Cause.{Cause}
 use Rattle.heylo_formula.specs.declared.goals.Made.{Made}
 use Rattle.heylo_formula.specs.declared.values.Val.{Val}
@@ -16,7 +16,7 @@ use Rattle.std.specs.Prelude.{List, codes, length, ◌++◌, ◌≡◌, ℕ}
 use Rattle.verdict_report.specs.Causes.{cause_text}
 use Rattle.verdict_report.specs.States.{state_text}
 
--- The goal of a step.
+-- The name of the goal of a step.
 abbrev pub step_text : Step → List ℕ
 step_text One = codes "at most 1"
 step_text Base = codes "base"
@@ -26,42 +26,54 @@ step_text Turn = codes "turn"
 abbrev pub holds_text : List ℕ → List ℕ
 holds_text name = name ++ codes ": omega: holds\n"
 
--- `P: omega: WHAT (STEP): WHY`, where this is what is said of the goal of a step, and why.
+-- `P: omega: WHAT (STEP): WHY`, for the goal of a step.
 abbrev pub step_line : List ℕ → List ℕ → Step → List ℕ → List ℕ
-step_line name what step why = name ++ codes ": omega: " ++ what ++ codes " (" ++ step_text step ++ codes "): " ++ why ++ codes "\n"
+step_line name what step why = name ++ codes ": omega: " ++ what ++ codes " (" ++ step_text step
+    ++ codes "): " ++ why ++ codes "\n"
 
--- The line where the procedures are no omega pair.
+-- The line on procedures that are no omega pair.
 abbrev pub no_omega_pair_text : List ℕ
 no_omega_pair_text = codes "not an omega pair\n"
 
--- What is made of the goal of a step of an omega pair.
-abbrev pub IsStepMade : (ps : List TypedProcedure) (p q : ℕ) → OmegaPair (procedure_at ps p) (procedure_at ps q) → Step → Made → Type 0
+-- `m` is the goal of a step of an omega pair, or the limit that one of its forms exceeds.
+abbrev pub IsStepMade : (ps : List TypedProcedure) (p q : ℕ)
+    → OmegaPair (procedure_at ps p) (procedure_at ps q) → Step → Made → Type 0
 IsStepMade ps p q l step m =
-    IsMadeFor (step_goal (procedure_at ps p) l.loop.head l.loop.body l.loop.behind (procedure_at ps q) step) (limited (procedure_at ps p) l.loop.body l.loop.behind (formula_of (procedure_at ps p) l.loop.head (procedure_at ps q)) step) m
+    IsMadeFor (step_goal (procedure_at ps p) l.loop.head l.loop.body l.loop.behind
+    (procedure_at ps q) step)
+    (limited (procedure_at ps p) l.loop.body l.loop.behind
+    (formula_of (procedure_at ps p) l.loop.head (procedure_at ps q)) step) m
 
--- Where a state or a cause is told, the procedures are an omega pair.
+-- If the answer has a state or a cause, the procedures are an omega pair.
 abbrev pub HasPair : List TypedProcedure → ℕ → ℕ → Omega → Type 0
 HasPair ps p q Holds = Unit {0}
 HasPair ps p q (Fails step s) = OmegaPair (procedure_at ps p) (procedure_at ps q)
 HasPair ps p q (Unknown step cause) = OmegaPair (procedure_at ps p) (procedure_at ps q)
 HasPair ps p q Shape = Unit {0}
 
--- The line on a goal that is falsified in this state, of which it shows the values of the variables of the loop's scope, of the number of
--- turns, which has the name of the second procedure's last input, and of those binders that are neither 0 nor false.
-pub record IsFailsText (ps : List TypedProcedure) (p q : ℕ) (step : Step) (s : List Val) (text : List ℕ) : Type 0 where
+-- The line on a falsified goal. Of the state it shows the values of the variables of the loop's
+-- scope, of the number of iterations, which has the name of the second procedure's last input, and
+-- of the binders that are neither 0 nor false.
+pub record IsFailsText (ps : List TypedProcedure) (p q : ℕ) (step : Step) (s : List Val)
+    (text : List ℕ) : Type 0 where
   pub pair : OmegaPair (procedure_at ps p) (procedure_at ps q)
   pub made : Made
   pub is_made : IsStepMade ps p q pair step made
-  pub is : text ≡ step_line (procedure_at ps p).name (codes "fails") step (state_text (names_of_made made) (places (procedure_at ps p) pair.loop.head) s)
+  pub is : text ≡ step_line (procedure_at ps p).name (codes "fails") step
+      (state_text (names_of_made made) (places (procedure_at ps p) pair.loop.head) s)
 
--- The line on a goal of which nothing is known, for this cause, in a file with these bytes.
-pub record IsUnknownText (bytes : List ℕ) (ps : List TypedProcedure) (p q : ℕ) (step : Step) (cause : Cause) (text : List ℕ) : Type 0 where
+-- `IsUnknownText bytes ps p q step cause text`: `text` is the line on the goal of `step` for the
+-- omega pair `p` and `q`, if `cause` leaves it undecided. `bytes` are those of the file.
+pub record IsUnknownText (bytes : List ℕ) (ps : List TypedProcedure) (p q : ℕ) (step : Step)
+    (cause : Cause) (text : List ℕ) : Type 0 where
   pub pair : OmegaPair (procedure_at ps p) (procedure_at ps q)
   pub made : Made
   pub is_made : IsStepMade ps p q pair step made
-  pub is : text ≡ step_line (procedure_at ps p).name (codes "unknown") step (cause_text bytes (names_of_made made) (placed (length bytes) cause))
+  pub is : text ≡ step_line (procedure_at ps p).name (codes "unknown") step
+      (cause_text bytes (names_of_made made) (placed (length bytes) cause))
 
--- The line on an answer.
+-- `IsOmegaText bytes ps p q answer text`: `text` is the line on `answer` for the procedures with
+-- the numbers `p` and `q`.
 abbrev pub IsOmegaText : List ℕ → List TypedProcedure → ℕ → ℕ → Omega → List ℕ → Type 0
 IsOmegaText bytes ps p q Holds text = text ≡ holds_text (procedure_at ps p).name
 IsOmegaText bytes ps p q (Fails step s) text = IsFailsText ps p q step s.items text

@@ -1,4 +1,4 @@
--- What is written of a remainder pair. The texts are this project's own.
+-- The texts of answers on remainder pairs. This project's own.
 use Rattle.goal_answers.specs.declared.causes.Cause.{Cause}
 use Rattle.heylo_formula.specs.declared.goals.Made.{Made}
 use Rattle.heylo_formula.specs.declared.values.Val.{Val}
@@ -6,7 +6,10 @@ use Rattle.heyvl_acts.specs.Acts.{TypedProcedure, procedure_at}
 use Rattle.heyvl_num.specs.Rational.{Rational}
 use Rattle.lower_goals.specs.RemainderPairs.{RemainderPair}
 use Rattle.lower_goals.specs.StartGoals.{start_goal}
-use Rattle.lower_goals.specs.declared.remainder_answers.Remainder.TheVariants.{Fails, Holds, NotRanked, NotVerified, Shape, Unknown}
+use Rattle.lower_goals.specs.declared.remainder_answers.Remainder.TheVariants.{Fails, Holds}
+use Rattle.lower_goals.specs.declared.remainder_answers.Remainder.TheVariants.{NotRanked}
+use Rattle.lower_goals.specs.declared.remainder_answers.Remainder.TheVariants.{NotVerified, Shape}
+use Rattle.lower_goals.specs.declared.remainder_answers.Remainder.TheVariants.{Unknown}
 use Rattle.lower_goals.specs.declared.remainder_answers.Remainder.{Remainder}
 use Rattle.verdict_report.specs.GoalNames.{names_of_made}
 use Rattle.lower_texts.specs.PlacedCauses.{placed}
@@ -26,15 +29,17 @@ remainder_line name what = name ++ codes ": remainder: " ++ what ++ codes "\n"
 abbrev pub bound_text : List ℕ → Rational → List ℕ
 bound_text name e = codes "pre of " ++ name ++ codes " over " ++ fraction_text e ++ codes " * m"
 
--- The line where the procedures are no remainder pair.
+-- The line on procedures that are no remainder pair.
 abbrev pub no_remainder_pair_text : List ℕ
 no_remainder_pair_text = codes "not a remainder pair\n"
 
--- What is made of the goal of a remainder pair.
-abbrev pub IsStartMade : (ps : List TypedProcedure) (p q : ℕ) → RemainderPair (procedure_at ps p) (procedure_at ps q) → Made → Type 0
-IsStartMade ps p q l m = IsMadeWithin (generated l.loop.front l.rank) (start_goal (procedure_at ps p) l.loop.front l.rank (procedure_at ps q).pre) m
+-- `m` is the goal of a remainder pair, or the limit that its form exceeds.
+abbrev pub IsStartMade : (ps : List TypedProcedure) (p q : ℕ)
+    → RemainderPair (procedure_at ps p) (procedure_at ps q) → Made → Type 0
+IsStartMade ps p q l m = IsMadeWithin (generated l.loop.front l.rank)
+    (start_goal (procedure_at ps p) l.loop.front l.rank (procedure_at ps q).pre) m
 
--- Where a state or a cause is told, the procedures are a remainder pair.
+-- If the answer has a state or a cause, the procedures are a remainder pair.
 abbrev pub HasPair : List TypedProcedure → ℕ → ℕ → Remainder → Type 0
 HasPair ps p q (Holds e) = Unit {0}
 HasPair ps p q NotVerified = Unit {0}
@@ -43,26 +48,37 @@ HasPair ps p q (Fails s) = RemainderPair (procedure_at ps p) (procedure_at ps q)
 HasPair ps p q (Unknown cause) = RemainderPair (procedure_at ps p) (procedure_at ps q)
 HasPair ps p q Shape = Unit {0}
 
--- The line where the goal is falsified in this state, of which it shows the values of the procedure's inputs and outputs, and of those
--- binders that are neither 0 nor false.
-pub record IsFailsText (ps : List TypedProcedure) (p q : ℕ) (s : List Val) (text : List ℕ) : Type 0 where
+-- The line on a falsified goal. Of the state it shows the values of the procedure's inputs and
+-- outputs, and of the binders that are neither 0 nor false.
+pub record IsFailsText (ps : List TypedProcedure) (p q : ℕ) (s : List Val) (text : List ℕ)
+    : Type 0 where
   pub pair : RemainderPair (procedure_at ps p) (procedure_at ps q)
   pub made : Made
   pub is_made : IsStartMade ps p q pair made
-  pub is : text ≡ remainder_line (procedure_at ps p).name (codes "fails (start): " ++ state_text (names_of_made made) (interface_numbers (procedure_at ps p)) s)
+  pub is : text ≡ remainder_line (procedure_at ps p).name
+      (codes "fails (start): "
+      ++ state_text (names_of_made made) (interface_numbers (procedure_at ps p)) s)
 
--- The line where nothing is known of it, for this cause, in a file with these bytes.
-pub record IsUnknownText (bytes : List ℕ) (ps : List TypedProcedure) (p q : ℕ) (cause : Cause) (text : List ℕ) : Type 0 where
+-- `IsUnknownText bytes ps p q cause text`: `text` is the line on the goal of the remainder pair `p`
+-- and `q`, if `cause` leaves it undecided. `bytes` are those of the file.
+pub record IsUnknownText (bytes : List ℕ) (ps : List TypedProcedure) (p q : ℕ) (cause : Cause)
+    (text : List ℕ) : Type 0 where
   pub pair : RemainderPair (procedure_at ps p) (procedure_at ps q)
   pub made : Made
   pub is_made : IsStartMade ps p q pair made
-  pub is : text ≡ remainder_line (procedure_at ps p).name (codes "unknown (start): " ++ cause_text bytes (names_of_made made) (placed (length bytes) cause))
+  pub is : text ≡ remainder_line (procedure_at ps p).name
+      (codes "unknown (start): "
+      ++ cause_text bytes (names_of_made made) (placed (length bytes) cause))
 
--- The line on an answer.
+-- `IsRemainderText bytes ps p q answer text`: `text` is the line on `answer` for the procedures
+-- with the numbers `p` and `q`.
 abbrev pub IsRemainderText : List ℕ → List TypedProcedure → ℕ → ℕ → Remainder → List ℕ → Type 0
-IsRemainderText bytes ps p q (Holds e) text = text ≡ remainder_line (procedure_at ps p).name (bound_text (procedure_at ps q).name e)
-IsRemainderText bytes ps p q NotVerified text = text ≡ remainder_line (procedure_at ps p).name (codes "not verified")
-IsRemainderText bytes ps p q NotRanked text = text ≡ remainder_line (procedure_at ps p).name (codes "not ranked")
+IsRemainderText bytes ps p q (Holds e) text =
+    text ≡ remainder_line (procedure_at ps p).name (bound_text (procedure_at ps q).name e)
+IsRemainderText bytes ps p q NotVerified text =
+    text ≡ remainder_line (procedure_at ps p).name (codes "not verified")
+IsRemainderText bytes ps p q NotRanked text =
+    text ≡ remainder_line (procedure_at ps p).name (codes "not ranked")
 IsRemainderText bytes ps p q (Fails s) text = IsFailsText ps p q s.items text
 IsRemainderText bytes ps p q (Unknown cause) text = IsUnknownText bytes ps p q cause text
 IsRemainderText bytes ps p q Shape text = text ≡ no_remainder_pair_text

@@ -1,4 +1,4 @@
-//! Why nothing is known of a goal, with a place among the bytes of the file.
+//! Causes of undecided goals, with a place among the bytes of the file.
 
 ghost use Rattle.goal_answers.specs.declared.causes.Cause.TheVariants as causes;
 ghost use Rattle.lower_texts.specs.PlacedCauses.{placed};
@@ -11,7 +11,7 @@ use heyvl_places::{Name, Span};
 use std::alloc::AllocError;
 use verdict_report::write_cause;
 
-/// The place, or the end of the bytes where it isn't among them.
+/// Returns the place, which starts at the end of the bytes if it would start beyond.
 fn among(bytes: &[u8], span: Span) -> Span
     requires { length bytes.now < 2 ^ 31 }
     ensures within { result.from ≤ length bytes.now }
@@ -24,7 +24,7 @@ fn among(bytes: &[u8], span: Span) -> Span
     }
 }
 
-/// Puts a cause behind the text.
+/// Appends a cause to the text.
 pub(crate) fn write_placed(
     text: &mut Vec<u8>,
     bytes: &[u8],
@@ -33,7 +33,8 @@ pub(crate) fn write_placed(
     cause: &Cause,
 ) -> Result<(), AllocError>
     requires { length bytes.now < 2 ^ 31 }
-    ensures { OnOk result (text.new.items ≡ text.old.items ++ cause_text bytes.now (named_by names.now own) (placed (length bytes.now) cause.now)) }
+    ensures { OnOk result (text.new.items ≡ text.old.items
+        ++ cause_text bytes.now (named_by names.now own) (placed (length bytes.now) cause.now)) }
 {
     match cause {
         Cause::Nonlinear(span) => {

@@ -1,4 +1,6 @@
-//! The texts of lower bounds: what is written of omega pairs and of remainder pairs.
+//! The texts of lower bounds: answers on omega pairs and on remainder pairs.
+//!
+//! `AllocError` means that memory ran out.
 #![tactic(auto)]
 
 mod causes;

@@ -1,11 +1,12 @@
-//! The text of what is answered of an omega pair.
+//! The texts of answers on omega pairs.
 
 ghost use Rattle.heyvl_acts.specs.Acts.{procedure_at};
 ghost use Rattle.heyvl_acts.specs.FormSizes.{FormsWithin};
 ghost use Rattle.heyvl_acts.specs.PlainActs.{procedures_of};
 ghost use Rattle.heyvl_acts.specs.Rules.{Each, MeetsAllRules};
 ghost use Rattle.lower_goals.specs.OmegaPairs.{OmegaPair};
-ghost use Rattle.lower_texts.specs.OmegaTexts.{HasPair, IsFailsText, IsOmegaText, IsUnknownText, holds_text, step_text};
+ghost use Rattle.lower_texts.specs.OmegaTexts.{HasPair, IsFailsText, IsOmegaText, IsUnknownText};
+ghost use Rattle.lower_texts.specs.OmegaTexts.{holds_text, step_text};
 ghost use Rattle.std.specs.Prelude.{IfOk, OnOk, codes, length, ◌++◌, ◌<◌, ◌^◌, ◌≡◌};
 
 use crate::causes::write_placed;
@@ -17,7 +18,7 @@ use lower_goals::{Omega, Step, omega_goal};
 use std::alloc::{AllocError, Global};
 use verdict_report::{names_of_made, write_state};
 
-/// Puts which goal it is behind the text.
+/// Appends the name of the goal of a step.
 fn write_step(text: &mut Vec<u8>, step: Step) -> Result<(), AllocError>
     ensures { OnOk result (text.new.items ≡ text.old.items ++ step_text step) }
 {
@@ -28,9 +29,10 @@ fn write_step(text: &mut Vec<u8>, step: Step) -> Result<(), AllocError>
     }
 }
 
-/// The text up to what is said of the goal: `P: omega: WHAT (STEP): `.
+/// Returns the beginning `P: omega: WHAT (STEP): ` of a line.
 fn begun(alloc: Global, name: &[u8], what: &[u8], step: Step) -> Result<Vec<u8>, AllocError>
-    ensures { IfOk result (λ text. text.items ≡ name.now ++ codes ": omega: " ++ what.now ++ codes " (" ++ step_text step ++ codes "): ") }
+    ensures { IfOk result (λ text. text.items ≡ name.now ++ codes ": omega: " ++ what.now
+        ++ codes " (" ++ step_text step ++ codes "): ") }
 {
     let mut text = Vec::from_slice(alloc, name)?;
     text.extend_from_slice(b": omega: ")?;
@@ -41,7 +43,7 @@ fn begun(alloc: Global, name: &[u8], what: &[u8], step: Step) -> Result<Vec<u8>,
     Ok(text)
 }
 
-/// The line on a pair whose goals are proved.
+/// Returns the line on a pair whose goals are proved.
 fn holds_line(alloc: Global, name: &[u8]) -> Result<Vec<u8>, AllocError>
     ensures { IfOk result (λ text. text.items ≡ holds_text name.now) }
 {
@@ -50,7 +52,7 @@ fn holds_line(alloc: Global, name: &[u8]) -> Result<Vec<u8>, AllocError>
     Ok(text)
 }
 
-/// The line on a goal that is falsified in this state.
+/// Returns the line on a goal that is falsified in this state.
 fn fails_line(
     alloc: Global,
     typed: &Typed,
@@ -63,8 +65,10 @@ fn fails_line(
     requires second { q < length typed.now.procs.items }
     requires rules { MeetsAllRules typed.now }
     requires small { Each (FormsWithin (2 ^ 27)) (procedures_of typed.now) }
-    requires pair { OmegaPair (procedure_at (procedures_of typed.now) p) (procedure_at (procedures_of typed.now) q) }
-    ensures { IfOk result (λ text. IsFailsText (procedures_of typed.now) p q step state.now text.items) }
+    requires pair { OmegaPair (procedure_at (procedures_of typed.now) p)
+        (procedure_at (procedures_of typed.now) q) }
+    ensures { IfOk result (λ text.
+        IsFailsText (procedures_of typed.now) p q step state.now text.items) }
 {
     let procedure = &typed.procs[p as usize];
     let made = omega_goal(alloc, typed, p, q, step)?;
@@ -76,7 +80,7 @@ fn fails_line(
     Ok(text)
 }
 
-/// The line on a goal of which nothing is known, for this cause.
+/// Returns the line on a goal that is not decided for this cause.
 fn unknown_line(
     alloc: Global,
     bytes: &[u8],
@@ -91,8 +95,10 @@ fn unknown_line(
     requires second { q < length typed.now.procs.items }
     requires rules { MeetsAllRules typed.now }
     requires small { Each (FormsWithin (2 ^ 27)) (procedures_of typed.now) }
-    requires pair { OmegaPair (procedure_at (procedures_of typed.now) p) (procedure_at (procedures_of typed.now) q) }
-    ensures { IfOk result (λ text. IsUnknownText bytes.now (procedures_of typed.now) p q step cause.now text.items) }
+    requires pair { OmegaPair (procedure_at (procedures_of typed.now) p)
+        (procedure_at (procedures_of typed.now) q) }
+    ensures { IfOk result (λ text.
+        IsUnknownText bytes.now (procedures_of typed.now) p q step cause.now text.items) }
 {
     let procedure = &typed.procs[p as usize];
     let made = omega_goal(alloc, typed, p, q, step)?;
@@ -103,9 +109,14 @@ fn unknown_line(
     Ok(text)
 }
 
-/// The line on what is answered of the procedures p and q as an omega pair, in a file with these bytes: `P: omega: holds`,
-/// `P: omega: fails (STEP): STATE` or `P: omega: unknown (STEP): CAUSE`, where the number of turns has the name of q's last input; or
-/// `not an omega pair`. Want of memory is the one error.
+/// Returns the line of the answer on the procedures `p` and `q` as an omega pair, in a file with
+/// these bytes:
+///
+/// - `P: omega: holds`
+/// - `P: omega: fails (STEP): STATE`, where the number of iterations has the name of the last input
+///   of `q`
+/// - `P: omega: unknown (STEP): CAUSE`
+/// - `not an omega pair`
 pub fn omega_text(
     alloc: Global,
     bytes: &[u8],
@@ -120,7 +131,8 @@ pub fn omega_text(
     requires rules { MeetsAllRules typed.now }
     requires small { Each (FormsWithin (2 ^ 27)) (procedures_of typed.now) }
     requires pair { HasPair (procedures_of typed.now) p q answer.now }
-    ensures { IfOk result (λ text. IsOmegaText bytes.now (procedures_of typed.now) p q answer.now text.items) }
+    ensures { IfOk result (λ text.
+        IsOmegaText bytes.now (procedures_of typed.now) p q answer.now text.items) }
 {
     match answer {
         Omega::Holds => holds_line(alloc, typed.procs[p as usize].name.as_bytes()),

@@ -1,10 +1,11 @@
-//! The text of what is answered of a remainder pair.
+//! The texts of answers on remainder pairs.
 
 ghost use Rattle.heyvl_acts.specs.Acts.{procedure_at};
 ghost use Rattle.heyvl_acts.specs.PlainActs.{procedures_of};
 ghost use Rattle.heyvl_acts.specs.Rules.{MeetsAllRules};
 ghost use Rattle.lower_goals.specs.RemainderPairs.{RemainderPair};
-ghost use Rattle.lower_texts.specs.RemainderTexts.{HasPair, IsFailsText, IsRemainderText, IsUnknownText, bound_text, remainder_line};
+ghost use Rattle.lower_texts.specs.RemainderTexts.{HasPair, IsFailsText, IsRemainderText};
+ghost use Rattle.lower_texts.specs.RemainderTexts.{IsUnknownText, bound_text, remainder_line};
 ghost use Rattle.std.specs.Prelude.{IfOk, codes, length, ◌++◌, ◌<◌, ◌^◌, ◌≡◌};
 
 use crate::causes::write_placed;
@@ -17,7 +18,7 @@ use number_texts::write_fraction;
 use std::alloc::{AllocError, Global};
 use verdict_report::{interface_of, names_of_made, write_state};
 
-/// The text up to what is said: `P: remainder: ` and this.
+/// Returns the beginning of a line: `P: remainder: ` and `what`.
 fn begun(alloc: Global, name: &[u8], what: &[u8]) -> Result<Vec<u8>, AllocError>
     ensures { IfOk result (λ text. text.items ≡ name.now ++ codes ": remainder: " ++ what.now) }
 {
@@ -27,7 +28,7 @@ fn begun(alloc: Global, name: &[u8], what: &[u8]) -> Result<Vec<u8>, AllocError>
     Ok(text)
 }
 
-/// The line on a procedure of which this is said.
+/// Returns the line `P: remainder: WHAT`.
 fn line(alloc: Global, name: &[u8], what: &[u8]) -> Result<Vec<u8>, AllocError>
     ensures { IfOk result (λ text. text.items ≡ remainder_line name.now what.now) }
 {
@@ -36,9 +37,11 @@ fn line(alloc: Global, name: &[u8], what: &[u8]) -> Result<Vec<u8>, AllocError>
     Ok(text)
 }
 
-/// The line on a pair that holds: the remainder is the pre of the other procedure over the step times m.
+/// Returns the line on a pair that holds: the remainder is the pre of the other procedure over the
+/// step times m.
 fn holds_line(alloc: Global, name: &[u8], other: &[u8], step: Frac) -> Result<Vec<u8>, AllocError>
-    ensures { IfOk result (λ text. text.items ≡ remainder_line name.now (bound_text other.now step)) }
+    ensures { IfOk result (λ text. text.items
+        ≡ remainder_line name.now (bound_text other.now step)) }
 {
     let mut text = begun(alloc, name, b"pre of ")?;
     text.extend_from_slice(other)?;
@@ -48,7 +51,7 @@ fn holds_line(alloc: Global, name: &[u8], other: &[u8], step: Frac) -> Result<Ve
     Ok(text)
 }
 
-/// The line where the goal is falsified in this state.
+/// Returns the line on a goal that is falsified in this state.
 fn fails_line(
     alloc: Global,
     typed: &Typed,
@@ -59,7 +62,8 @@ fn fails_line(
     requires first { p < length typed.now.procs.items }
     requires second { q < length typed.now.procs.items }
     requires rules { MeetsAllRules typed.now }
-    requires pair { RemainderPair (procedure_at (procedures_of typed.now) p) (procedure_at (procedures_of typed.now) q) }
+    requires pair { RemainderPair (procedure_at (procedures_of typed.now) p)
+        (procedure_at (procedures_of typed.now) q) }
     ensures { IfOk result (λ text. IsFailsText (procedures_of typed.now) p q state.now text.items) }
 {
     let made = remainder_goal(alloc, typed, p, q)?;
@@ -72,7 +76,7 @@ fn fails_line(
     Ok(text)
 }
 
-/// The line where nothing is known of the goal, for this cause.
+/// Returns the line on a goal that is not decided for this cause.
 fn unknown_line(
     alloc: Global,
     bytes: &[u8],
@@ -85,8 +89,10 @@ fn unknown_line(
     requires first { p < length typed.now.procs.items }
     requires second { q < length typed.now.procs.items }
     requires rules { MeetsAllRules typed.now }
-    requires pair { RemainderPair (procedure_at (procedures_of typed.now) p) (procedure_at (procedures_of typed.now) q) }
-    ensures { IfOk result (λ text. IsUnknownText bytes.now (procedures_of typed.now) p q cause.now text.items) }
+    requires pair { RemainderPair (procedure_at (procedures_of typed.now) p)
+        (procedure_at (procedures_of typed.now) q) }
+    ensures { IfOk result (λ text.
+        IsUnknownText bytes.now (procedures_of typed.now) p q cause.now text.items) }
 {
     let made = remainder_goal(alloc, typed, p, q)?;
     let (names, own) = names_of_made(&made);
@@ -97,9 +103,14 @@ fn unknown_line(
     Ok(text)
 }
 
-/// The line on what is answered of the procedures p and q as a remainder pair, in a file with these bytes: `P: remainder: ` and
-/// `pre of NAME over E * m`, `not verified`, `not ranked`, `fails (start): STATE` or `unknown (start): CAUSE`; or `not a remainder pair`.
-/// Want of memory is the one error.
+/// Returns the line of the answer on the procedures `p` and `q` as a remainder pair, in a file with
+/// these bytes. It is `not a remainder pair`, or `P: remainder: ` followed by one of
+///
+/// - `pre of NAME over E * m`
+/// - `not verified`
+/// - `not ranked`
+/// - `fails (start): STATE`
+/// - `unknown (start): CAUSE`
 pub fn remainder_text(
     alloc: Global,
     bytes: &[u8],
@@ -113,7 +124,8 @@ pub fn remainder_text(
     requires second { q < length typed.now.procs.items }
     requires rules { MeetsAllRules typed.now }
     requires pair { HasPair (procedures_of typed.now) p q answer.now }
-    ensures { IfOk result (λ text. IsRemainderText bytes.now (procedures_of typed.now) p q answer.now text.items) }
+    ensures { IfOk result (λ text.
+        IsRemainderText bytes.now (procedures_of typed.now) p q answer.now text.items) }
 {
     let name = typed.procs[p as usize].name.as_bytes();
     match answer {

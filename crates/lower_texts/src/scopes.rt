@@ -10,7 +10,7 @@ ghost use Rattle.std.specs.Prelude.{IfOk, length, ◌<◌, ◌^◌, ◌≡◌};
 use heyvl_acts::{Act, TProc};
 use std::alloc::{AllocError, Global};
 
-/// The variables that are visible at an act, where it is a loop.
+/// Returns the variables that are visible at the act, if it is a loop.
 fn own_scope(act: &Act) -> Option<&[u32]>
     ensures { lent result ≡ own_scope (act_of act.now) }
 {
@@ -29,7 +29,8 @@ fn own_scope(act: &Act) -> Option<&[u32]>
     }
 }
 
-/// The variables that are visible at the first loop among these acts, those inside them aside; none where there is none.
+/// Returns the variables that are visible at the first loop of the acts, or no variables if there
+/// is no loop. Loops inside other acts do not count.
 fn scope_among(acts: &[Act]) -> &[u32]
     ensures { result.now ≡ first_scope (acts_of acts.now) }
 {
@@ -41,7 +42,7 @@ fn scope_among(acts: &[Act]) -> &[u32]
     &[]
 }
 
-/// The same for the acts of a procedure's body.
+/// Returns the variables that are visible at the first loop of a procedure's body.
 fn scope_of(procedure: &TProc) -> &[u32]
     ensures { result.now ≡ first_scope (acts_in (procedure_of procedure.now).body) }
 {
@@ -51,10 +52,12 @@ fn scope_of(procedure: &TProc) -> &[u32]
     }
 }
 
-/// The variables of the scope of a procedure's one loop, and the number of turns, which has the number behind the procedure's variables.
+/// Returns the variables of the scope of a procedure's one loop, then the number of iterations,
+/// whose variable follows the procedure's.
 pub(crate) fn shown_variables(alloc: Global, procedure: &TProc) -> Result<Vec<u32>, AllocError>
     requires { length procedure.now.vars.items < 2 ^ 31 }
-    ensures { (l : OneLoop (procedure_of procedure.now)) → IfOk result (λ shown. shown.items ≡ places (procedure_of procedure.now) l.head) }
+    ensures { (l : OneLoop (procedure_of procedure.now))
+        → IfOk result (λ shown. shown.items ≡ places (procedure_of procedure.now) l.head) }
 {
     let mut shown = Vec::from_slice(alloc, scope_of(procedure))?;
     shown.push(procedure.vars.len() as u32)?;
