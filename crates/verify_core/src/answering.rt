@@ -1,11 +1,12 @@
-//! The answer on each procedure by its own goals and its kind alone.
+//! The answers on the procedures by their own goals and kinds.
 
 ghost use Rattle.heyvl_acts.specs.Acts.{procedure_at};
 ghost use Rattle.heyvl_acts.specs.PlainActs.{procedures_of};
 ghost use Rattle.heyvl_acts.specs.Rules.{MeetsAllRules};
 ghost use Rattle.std.specs.Prelude.{IfOk, OnOk, [], length, map, ◌++◌, ◌<◌, ◌≡◌};
 ghost use Rattle.verify_core.specs.Outcomes.{all_shown, listed, loop_answer, rank_of, shown, told};
-ghost use Rattle.verify_core.specs.internal.Own.{AreOwn, CanAnswer, IsKindVerdict, IsOwnAnswer, IsOwnVerdict, verdict_for};
+ghost use Rattle.verify_core.specs.internal.Own.{AreOwn, CanAnswer, IsKindVerdict, IsOwnAnswer};
+ghost use Rattle.verify_core.specs.internal.Own.{IsOwnVerdict, verdict_for};
 
 use crate::outcomes::{GoalOutcome, Outcome, told};
 use crate::procedure_goals::bounds;
@@ -20,8 +21,8 @@ use std::alloc::{AllocError, Global};
 use verdict_report::{Answer, LoopAnswer, RankVerdict, Verdict};
 use vp_generator::{generated_form_means_acts, prenexed_goals_speak_of_choices};
 
-/// The answers on the procedures. The certificates of goals that are proved by decisions are appended, and so are the goals
-/// whose state or cause is in an answer.
+/// Returns the answers on the procedures. Appends to `certs` the certificates of the goals that are
+/// proved by decisions, and to `made` the goals whose state or cause is in an answer.
 pub(crate) fn own_answers(
     alloc: Global,
     typed: &Typed,
@@ -33,7 +34,9 @@ pub(crate) fn own_answers(
     requires ready { CanAnswer way (procedures_of typed.now) }
     requires no_certs { certs.old.items ≡ [] }
     requires none_made { made.old.items ≡ [] }
-    ensures { IfOk result (λ all. AreOwn way.entry (procedures_of typed.now) (procedures_of typed.now) all.items certs.new.items made.new.items) }
+    ensures { IfOk result (λ all.
+        AreOwn way.entry (procedures_of typed.now)
+        (procedures_of typed.now) all.items certs.new.items made.new.items) }
 {
     let mut all = Vec::new(alloc);
     for p in 0..typed.procs.len() {
@@ -43,7 +46,7 @@ pub(crate) fn own_answers(
     Ok(all)
 }
 
-/// The answer on a procedure. Certificates and goals are appended as above.
+/// Returns the answer on a procedure, and appends to `certs` and `made` as `own_answers` does.
 fn own_answer(
     alloc: Global,
     typed: &Typed,
@@ -55,7 +58,9 @@ fn own_answer(
     requires there { p < length typed.now.procs.items }
     requires rules { MeetsAllRules typed.now }
     requires ready { CanAnswer way (procedures_of typed.now) }
-    ensures { IfOk result (λ a. IsOwnAnswer way.entry (procedures_of typed.now) p a certs.old.items certs.new.items made.old.items made.new.items) }
+    ensures { IfOk result (λ a.
+        IsOwnAnswer way.entry (procedures_of typed.now) p a certs.old.items certs.new.items
+        made.old.items made.new.items) }
 {
     generated_form_means_acts();
     prenexed_goals_speak_of_choices();
@@ -73,7 +78,8 @@ fn own_answer(
     })
 }
 
-/// The verdict on a procedure by the goals of its bound and its kind. The goal whose state or cause it tells is appended.
+/// Returns the verdict on a procedure by the goals of its bound and its kind. Appends to `made` the
+/// goal whose state or cause it reports.
 fn own_verdict(
     typed: &Typed,
     p: u32,
@@ -81,8 +87,10 @@ fn own_verdict(
     made: &mut Vec<NamedGoal>,
 ) -> Result<Verdict, AllocError>
     requires there { p < length typed.now.procs.items }
-    ensures verdict { IfOk result (λ v. IsOwnVerdict (procedure_at (procedures_of typed.now) p) row.items v) }
-    ensures made { OnOk result (made.new.items ≡ made.old.items ++ all_shown (listed (told row.items))) }
+    ensures verdict { IfOk result
+        (λ v. IsOwnVerdict (procedure_at (procedures_of typed.now) p) row.items v) }
+    ensures made { OnOk result
+        (made.new.items ≡ made.old.items ++ all_shown (listed (told row.items))) }
 {
     let Some(one) = told(row) else {
         return Ok(by_kind(typed, p));
@@ -99,9 +107,10 @@ fn own_verdict(
     }
 }
 
-/// The goal is appended, if its state or cause is told.
+/// Appends the goal to `made` if an answer reports its state or cause.
 fn show(goal: NamedGoal, outcome: &Outcome, made: &mut Vec<NamedGoal>) -> Result<(), AllocError>
-    ensures { OnOk result (made.new.items ≡ made.old.items ++ shown (record { goal = goal; outcome = outcome.now })) }
+    ensures { OnOk result (made.new.items ≡ made.old.items
+        ++ shown (record { goal = goal; outcome = outcome.now })) }
 {
     match outcome {
         Outcome::Falsified(_) | Outcome::Unknown(_) => made.push(goal)?,
@@ -110,7 +119,7 @@ fn show(goal: NamedGoal, outcome: &Outcome, made: &mut Vec<NamedGoal>) -> Result
     Ok(())
 }
 
-/// The verdict on a procedure whose bound's goals are proved, by its kind.
+/// Returns the verdict on a procedure whose goals are proved.
 fn by_kind(typed: &Typed, p: u32) -> Verdict
     requires there { p < length typed.now.procs.items }
     ensures { IsKindVerdict (procedure_at (procedures_of typed.now) p) result }
@@ -121,7 +130,7 @@ fn by_kind(typed: &Typed, p: u32) -> Verdict
     }
 }
 
-/// The verdict on a procedure whose bound's goals are proved, and that is no program.
+/// Returns the verdict on a procedure whose goals are proved and that is no program.
 fn verdict_for(why: WhyNot) -> Verdict
     ensures { result ≡ verdict_for why }
 {
@@ -133,7 +142,8 @@ fn verdict_for(why: WhyNot) -> Verdict
     }
 }
 
-/// What is said of the loops whose rankings' goals these are. The goals whose state or cause is told are appended.
+/// Returns the answers on the loops whose rankings have the goals of `row`. Appends to `made` the
+/// goals whose state or cause they report.
 fn loop_answers(
     alloc: Global,
     row: Vec<GoalOutcome>,
@@ -156,7 +166,7 @@ fn loop_answers(
     Ok(loops)
 }
 
-/// What is said of a ranking by what comes of its goal.
+/// Returns the verdict on a ranking, by the outcome of its goal.
 fn rank_of(outcome: Outcome) -> RankVerdict
     ensures { result ≡ rank_of outcome }
 {

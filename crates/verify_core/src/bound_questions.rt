@@ -1,4 +1,4 @@
-//! The formulas of a weak proc that are to be at most 1.
+//! The formulas of a proc with `@wlp` that have to be at most 1.
 
 ghost use Rattle.act_walks.specs.Lent.{lent};
 ghost use Rattle.heyvl_acts.specs.PlainActs.{procedure_of};
@@ -12,14 +12,15 @@ use heylo_formula::{Form, GoalId};
 use heyvl_acts::{Act, LoopAct, TProc};
 use std::alloc::{AllocError, Global};
 
-/// A goal, and the formula of which it asks whether it is at most 1.
+/// A formula that has to be at most 1, and the name of its goal.
 #[derive(Drop)]
 pub(crate) struct Asked {
     pub(crate) id: GoalId,
     pub(crate) form: Form,
 }
 
-/// The pre and the post of a procedure, and the invariants of the loops of its body in the order of the text.
+/// Returns the pre and the post of a procedure, and the invariants of its loops in the order of the
+/// text.
 pub(crate) fn asked_of(alloc: Global, procedure: &TProc) -> Result<Vec<Asked>, AllocError>
     ensures { IfOk result (λ all. map plain all.items ≡ asked (procedure_of procedure.now)) }
 {
@@ -39,9 +40,10 @@ pub(crate) fn asked_of(alloc: Global, procedure: &TProc) -> Result<Vec<Asked>, A
     Ok(all)
 }
 
-/// The invariants of those of these acts that are loops are appended.
+/// Appends the invariants of the loops among the acts.
 fn add_invariants(alloc: Global, all: &mut Vec<Asked>, acts: &[&Act]) -> Result<(), AllocError>
-    ensures { OnOk result (map plain all.new.items ≡ map plain all.old.items ++ asked_invariants (map lent acts.now)) }
+    ensures { OnOk result (map plain all.new.items ≡ map plain all.old.items
+        ++ asked_invariants (map lent acts.now)) }
 {
     for act in acts {
         if let Act::Loop(one) = act {
@@ -51,9 +53,9 @@ fn add_invariants(alloc: Global, all: &mut Vec<Asked>, acts: &[&Act]) -> Result<
     Ok(())
 }
 
-/// The invariant of a loop is appended.
 fn add_invariant(alloc: Global, all: &mut Vec<Asked>, one: &LoopAct) -> Result<(), AllocError>
-    ensures { OnOk result (map plain all.new.items ≡ map plain all.old.items ++ (Invariant one.now.number, form_of one.now.inv) ∷ []) }
+    ensures { OnOk result (map plain all.new.items ≡ map plain all.old.items
+        ++ (Invariant one.now.number, form_of one.now.inv) ∷ []) }
 {
     let form = one.inv.copy(alloc)?;
     all.push(Asked {

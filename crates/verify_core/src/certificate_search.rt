@@ -1,4 +1,4 @@
-//! The certificate of a goal among certificates in the order of a text.
+//! The search for the certificate of a goal, in a list in the order of the text.
 
 ghost use Rattle.cert_text.specs.Certificates.{IsGrowingAfter, certificates_of, precedes};
 ghost use Rattle.goal_answers.specs.Trees.{Tree as TreeValue, tree_of};
@@ -9,14 +9,14 @@ ghost use Rattle.verify_core.specs.internal.CertificateAnswers.{IsPlaceOf, name_
 use goal_answers::{GoalCert, Tree};
 use heylo_formula::GoalId;
 
-/// Whether the certificate's goal comes before the goal of a procedure.
+/// Returns whether the goal of `cert` precedes the goal `id` of the procedure `proc`.
 fn precedes(cert: &GoalCert, proc: u32, id: GoalId) -> bool
     ensures { result ≡ precedes (name_of cert.now) (record { proc = proc; id = id }) }
 {
     cert.proc < proc || (cert.proc == proc && cert.id.stands_before(id))
 }
 
-/// Whether the certificate is of the goal of a procedure.
+/// Returns whether `cert` is for the goal `id` of the procedure `proc`.
 fn is_of(cert: &GoalCert, proc: u32, id: GoalId) -> bool
     ensures yes { result ≡ true → (cert.now.proc ≡ proc) × (cert.now.id ≡ id) }
     ensures no { result ≡ false → cert.now.proc ≡ proc → cert.now.id ≡ id → ⊥ }
@@ -24,7 +24,8 @@ fn is_of(cert: &GoalCert, proc: u32, id: GoalId) -> bool
     cert.proc == proc && cert.id == id
 }
 
-/// The place of the first certificate whose goal doesn't come before the goal of a procedure, or else the end.
+/// Returns the place of the first certificate whose goal does not precede the goal `id` of the
+/// procedure `proc`, or the length of the list.
 fn place_of(certs: &[GoalCert], proc: u32, id: GoalId) -> usize
     requires order { IsGrowingAfter None (certificates_of certs.now) }
     ensures { IsPlaceOf certs.now (record { proc = proc; id = id }) result }
@@ -32,7 +33,7 @@ fn place_of(certs: &[GoalCert], proc: u32, id: GoalId) -> usize
     certs.partition_point(|cert| precedes(cert, proc, id))
 }
 
-/// The tree for the goal of a procedure, where there is one among the certificates.
+/// Returns the tree for the goal `id` of the procedure `proc`, if there is one.
 pub(crate) fn tree_for(certs: &[GoalCert], proc: u32, id: GoalId) -> Option<&Tree>
     requires order { IsGrowingAfter None (certificates_of certs.now) }
     ensures found { IfSome result (λ tree. HasTree certs.now proc id (tree_of tree.now)) }

@@ -1,4 +1,4 @@
-//! What comes of a goal by certificates.
+//! The outcome of a goal by certificates.
 
 ghost use Rattle.cert_text.specs.Certificates.{IsGrowingAfter, certificates_of};
 ghost use Rattle.goal_answers.specs.Trees.{tree_of};
@@ -14,7 +14,7 @@ use goal_answers::{Checked, GoalCert, Miss, NamedGoal, Tree};
 use heylo_formula::Made;
 use std::alloc::{AllocError, Global};
 
-/// What comes of the goal by the certificates.
+/// Returns the outcome of a goal by the certificates.
 pub(crate) fn by_certificates(
     alloc: Global,
     certs: &[GoalCert],
@@ -29,7 +29,7 @@ pub(crate) fn by_certificates(
     }
 }
 
-/// Why the certificates don't prove the goal, if they don't.
+/// Returns why the certificates do not prove the goal, or `None` if they do.
 fn miss_of(alloc: Global, certs: &[GoalCert], goal: &NamedGoal) -> Result<Option<Miss>, AllocError>
     requires order { IsGrowingAfter None (certificates_of certs.now) }
     ensures { IfOk result (λ miss. IsMissOf certs.now goal.now miss) }
@@ -40,7 +40,8 @@ fn miss_of(alloc: Global, certs: &[GoalCert], goal: &NamedGoal) -> Result<Option
     }
 }
 
-/// Where the tree is refused first, if it is no certificate of what was made. It is refused at the root where there is no goal.
+/// Returns where `tree` is refused first as a certificate of `made`, or `None` if it is one. If
+/// there is no goal, it is refused at the root.
 fn found(alloc: Global, made: &Made, tree: &Tree) -> Result<Option<Miss>, AllocError>
     ensures { IfOk result (λ miss. IsFound made.now (tree_of tree.now) miss) }
 {

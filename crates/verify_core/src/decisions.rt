@@ -1,4 +1,4 @@
-//! What comes of a goal by its decision.
+//! The outcome of a goal by its decision.
 
 ghost use Rattle.std.specs.Prelude.{IfOk};
 ghost use Rattle.verify_core.specs.GoalDecisions.{IsDecisionOf};
@@ -12,14 +12,16 @@ use heylo_formula::Made;
 use region_split::decide;
 use std::alloc::{AllocError, Global};
 
-/// What comes of the goal by its decision. The certificate of a goal that is proved with a tree is appended.
+/// Returns the outcome of a goal by its decision. Appends the certificate of a goal that is proved
+/// with a tree.
 pub(crate) fn by_decision(
     alloc: Global,
     goal: &NamedGoal,
     certs: &mut Vec<GoalCert>,
 ) -> Result<Outcome, AllocError>
     requires { CanDecide goal.now.made }
-    ensures { IfOk result (λ outcome. IsSettled Decide goal.now outcome certs.old.items certs.new.items) }
+    ensures { IfOk result (λ outcome.
+        IsSettled Decide goal.now outcome certs.old.items certs.new.items) }
 {
     match decision_of(alloc, &goal.made)? {
         Decision::Proved(None) => Ok(Outcome::Proved),
@@ -36,7 +38,8 @@ pub(crate) fn by_decision(
     }
 }
 
-/// The decision of a goal; where there is none, nothing is known for the limit that its form passes.
+/// Returns the decision of a goal. If there is no goal, it is unknown for the limit that the form
+/// passes.
 fn decision_of(alloc: Global, made: &Made) -> Result<Decision, AllocError>
     requires { CanDecide made.now }
     ensures decision { IfOk result (λ d. IsDecisionOf made.now d) }

@@ -1,4 +1,6 @@
-//! The goals of the procedures of a file, and what is answered of the procedures.
+//! The goals of the procedures of a file, and the answers on the procedures.
+//!
+//! `AllocError` means that memory ran out.
 #![tactic(auto)]
 
 mod answering;

@@ -1,4 +1,4 @@
-//! What comes of goals.
+//! Outcomes of goals.
 
 ghost use Rattle.std.specs.Prelude.{◌≡◌};
 ghost use Rattle.verify_core.specs.Outcomes.{is_falsified, is_open, told};
@@ -6,27 +6,27 @@ ghost use Rattle.verify_core.specs.Outcomes.{is_falsified, is_open, told};
 use goal_answers::{Cause, Miss, NamedGoal};
 use heylo_formula::Val;
 
-/// What comes of a goal.
+/// The outcome of a goal.
 #[derive(Drop)]
 pub(crate) enum Outcome {
-    /// It is proved.
+    /// The goal is proved.
     Proved,
-    /// It fails in this state.
+    /// The goal fails in this state.
     Falsified(Vec<Val>),
-    /// Nothing is known of it, for this cause.
+    /// The goal is not decided, for this cause.
     Unknown(Cause),
-    /// The certificates don't prove it.
+    /// The certificates do not prove the goal, for this reason.
     Missed(Miss),
 }
 
-/// A goal, and what comes of it.
+/// A goal and its outcome.
 #[derive(Drop)]
 pub(crate) struct GoalOutcome {
     pub(crate) goal: NamedGoal,
     pub(crate) outcome: Outcome,
 }
 
-/// The first of the goals that is falsified, or else the first that is open.
+/// Returns the first of the goals that is falsified, otherwise the first that is open.
 pub(crate) fn told(row: Vec<GoalOutcome>) -> Option<GoalOutcome>
     ensures { result ≡ told row.items }
 {

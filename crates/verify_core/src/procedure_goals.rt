@@ -9,7 +9,8 @@ ghost use Rattle.loop_encodings.specs.BoundGoals.{BoundGoal, bound_goals};
 ghost use Rattle.std.specs.Prelude.{IfOk, List, length, map, ◌++◌, ◌<◌, ◌^◌};
 ghost use Rattle.verify_core.specs.Questions.{AreGoals, IsMadeOf, one_bound, question};
 ghost use Rattle.verify_core.specs.Rankings.{AreAllGoals};
-ghost use Rattle.verify_core.specs.internal.BoundQuestions.{AreMadeFor, IsAsked, NamedQuestion, asked_question, plain};
+ghost use Rattle.verify_core.specs.internal.BoundQuestions.{AreMadeFor, IsAsked, NamedQuestion};
+ghost use Rattle.verify_core.specs.internal.BoundQuestions.{asked_question, plain};
 
 use crate::bound_questions::{Asked, asked_of};
 use crate::rankings::rankings;
@@ -22,8 +23,8 @@ use made_goals::{generated_goal, goal_over};
 use std::alloc::{AllocError, Global};
 use vp_generator::generated_form_means_acts;
 
-/// The goals of the procedure: none without a body; else those of its bound, and then one for each of its rankings, in the order
-/// of the text. Want of memory is the one error.
+/// Returns the goals of the procedure with the number `p`: those of its bound, then one for each of
+/// its rankings, in the order of the text. A procedure without a body has none.
 pub fn goals(alloc: Global, typed: &Typed, p: u32) -> Result<Vec<NamedGoal>, AllocError>
     requires there { p < length typed.now.procs.items }
     requires rules { MeetsAllRules typed.now }
@@ -35,12 +36,14 @@ pub fn goals(alloc: Global, typed: &Typed, p: u32) -> Result<Vec<NamedGoal>, All
     Ok(all)
 }
 
-/// The goals of the procedure's bound: none without a body; else the main one and, for a weak proc, that its pre, its post and
-/// each of its invariants, in the order of the text, are at most 1.
+/// Returns the goals of the procedure's bound: the main goal and, for a proc with `@wlp`, that its
+/// pre, its post and each of its invariants are at most 1. A procedure without a body has none.
 pub(crate) fn bounds(alloc: Global, typed: &Typed, p: u32) -> Result<Vec<NamedGoal>, AllocError>
     requires there { p < length typed.now.procs.items }
     requires rules { MeetsAllRules typed.now }
-    ensures { IfOk result (λ all. AreGoals (procedures_of typed.now) p (bound_goals (procedure_at (procedures_of typed.now) p)) all.items) }
+    ensures { IfOk result (λ all.
+        AreGoals (procedures_of typed.now) p
+        (bound_goals (procedure_at (procedures_of typed.now) p)) all.items) }
 {
     what_substitution_gives();
     let procedure = &typed.procs[p as usize];
@@ -61,11 +64,13 @@ pub(crate) fn bounds(alloc: Global, typed: &Typed, p: u32) -> Result<Vec<NamedGo
     add_bounds(alloc, typed, p, asked, all)
 }
 
-/// The main goal: the encoded body, generated over the post, against the pre.
+/// Returns the main goal, which compares the pre with the pre-expectation of the encoded body.
 fn main_goal(alloc: Global, typed: &Typed, p: u32) -> Result<Made, AllocError>
     requires there { p < length typed.now.procs.items }
     requires rules { MeetsAllRules typed.now }
-    ensures { IfOk result (λ made. IsMadeOf (question (procedures_of typed.now) (procedure_at (procedures_of typed.now) p) BoundGoal.main) made) }
+    ensures { IfOk result (λ made.
+        IsMadeOf (question (procedures_of typed.now)
+        (procedure_at (procedures_of typed.now) p) BoundGoal.main) made) }
 {
     generated_form_means_acts();
     encodings_are_over_their_variables();
@@ -81,7 +86,7 @@ fn main_goal(alloc: Global, typed: &Typed, p: u32) -> Result<Made, AllocError>
     )
 }
 
-/// The goals that formulas of the procedure are at most 1 are appended.
+/// Appends a goal for each formula of `asked`, that it is at most 1.
 fn add_bounds(
     alloc: Global,
     typed: &Typed,
@@ -91,8 +96,13 @@ fn add_bounds(
 ) -> Result<Vec<NamedGoal>, AllocError>
     requires there { p < length typed.now.procs.items }
     requires rules { MeetsAllRules typed.now }
-    requires asked { Each (IsAsked (procedures_of typed.now) (procedure_at (procedures_of typed.now) p)) (map plain asked.items) }
-    ensures { (questions : List NamedQuestion) → AreMadeFor p questions all.items → IfOk result (λ more. AreMadeFor p (questions ++ map (asked_question (procedure_at (procedures_of typed.now) p)) (map plain asked.items)) more.items) }
+    requires asked { Each (IsAsked (procedures_of typed.now)
+        (procedure_at (procedures_of typed.now) p)) (map plain asked.items) }
+    ensures { (questions : List NamedQuestion) → AreMadeFor p questions all.items
+        → IfOk result
+        (λ more. AreMadeFor p
+        (questions ++ map (asked_question (procedure_at (procedures_of typed.now) p))
+        (map plain asked.items)) more.items) }
 {
     let mut more = all;
     for one in asked {
@@ -103,11 +113,12 @@ fn add_bounds(
     Ok(more)
 }
 
-/// The goal that a formula over the procedure's variables is at most 1.
+/// Returns the goal that `form` is at most 1.
 fn bound_goal(alloc: Global, procedure: &TProc, form: Form) -> Result<Made, AllocError>
     requires few { length procedure.now.vars.items < 2 ^ 30 }
     requires named { AreNamed (length procedure.now.vars.items) (binders (form_of form)) }
-    ensures { IfOk result (λ made. IsMadeOf (one_bound (procedure_of procedure.now) (form_of form)) made) }
+    ensures { IfOk result (λ made.
+        IsMadeOf (one_bound (procedure_of procedure.now) (form_of form)) made) }
 {
     let most = Form::Const(Ext::one());
     goal_over(alloc, true, &procedure.vars, &most, form)

@@ -14,11 +14,13 @@ use heyvl_acts::{Act, TProc, Typed};
 use ranking_rule::ranking_goal;
 use std::alloc::{AllocError, Global};
 
-/// One goal for each ranking, in the order of the text.
+/// Returns one goal for each ranking, in the order of the text.
 pub(crate) fn rankings(alloc: Global, typed: &Typed, p: u32) -> Result<Vec<NamedGoal>, AllocError>
     requires there { p < length typed.now.procs.items }
     requires rules { MeetsAllRules typed.now }
-    ensures { IfOk result (λ all. AreRankingGoals (procedures_of typed.now) p (ranked_loops (procedure_at (procedures_of typed.now) p)) all.items) }
+    ensures { IfOk result (λ all.
+        AreRankingGoals (procedures_of typed.now) p
+        (ranked_loops (procedure_at (procedures_of typed.now) p)) all.items) }
 {
     let numbers = ranked_loops(alloc, &typed.procs[p as usize])?;
     let mut all = Vec::new(alloc);
@@ -33,7 +35,7 @@ pub(crate) fn rankings(alloc: Global, typed: &Typed, p: u32) -> Result<Vec<Named
     Ok(all)
 }
 
-/// The numbers of the procedure's loops that have a ranking, in the order of the text.
+/// Returns the numbers of the procedure's loops with a ranking, in the order of the text.
 fn ranked_loops(alloc: Global, procedure: &TProc) -> Result<Vec<u32>, AllocError>
     ensures { IfOk result (λ all. all.items ≡ ranked_loops (procedure_of procedure.now)) }
 {
@@ -41,7 +43,7 @@ fn ranked_loops(alloc: Global, procedure: &TProc) -> Result<Vec<u32>, AllocError
     ranked_among(alloc, &acts)
 }
 
-/// The numbers of those of these acts that are loops with a ranking.
+/// Returns the numbers of those of the acts that are loops with a ranking.
 fn ranked_among(alloc: Global, acts: &[&Act]) -> Result<Vec<u32>, AllocError>
     ensures { IfOk result (λ all. all.items ≡ ranked_in (map lent acts.now)) }
 {

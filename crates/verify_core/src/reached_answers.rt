@@ -1,4 +1,5 @@
-//! The answers on procedures from those on each by itself.
+//! The answers on procedures, from the answers by their own goals and kinds and from the procedures
+//! that they reach.
 
 ghost use Rattle.heyvl_acts.specs.Acts.{procedure_at};
 ghost use Rattle.heyvl_acts.specs.PlainActs.{procedures_of};
@@ -8,7 +9,8 @@ ghost use Rattle.std.specs.Prelude.{IfOk, List, length, map, ◌<◌, ◌≡◌}
 ghost use Rattle.verify_core.specs.NumberedLists.{row_at};
 ghost use Rattle.verify_core.specs.Verdicts.{AreAnswers, IsAnswer, IsClosed, IsVerdict};
 ghost use Rattle.verify_core.specs.declared.outcomes.GoalOutcome.{GoalOutcome};
-ghost use Rattle.verify_core.specs.internal.Marks.{AreMarks, first_marked, is_unverified, is_verified};
+ghost use Rattle.verify_core.specs.internal.Marks.{AreMarks, first_marked, is_unverified};
+ghost use Rattle.verify_core.specs.internal.Marks.{is_verified};
 ghost use Rattle.verify_core.specs.internal.Own.{EachNumbered, IsOwnBy, IsOwnVerdict};
 
 use heyvl_acts::Typed;
@@ -16,7 +18,8 @@ use proc_contracts::reach;
 use std::alloc::{AllocError, Global};
 use verdict_report::{Answer, Verdict};
 
-/// The answers by themselves, but for the procedures that are verified so and reach one that isn't.
+/// Returns the answers of `own`, but `Conditional` for a procedure that is verified in `own` and
+/// reaches one that is not.
 pub(crate) fn answers(
     alloc: Global,
     typed: &Typed,
@@ -24,7 +27,11 @@ pub(crate) fn answers(
 ) -> Result<Vec<Answer>, AllocError>
     requires rules { MeetsAllRules typed.now }
     requires each { length own.items ≡ length typed.now.procs.items }
-    ensures { (table ranks : List (List GoalOutcome)) → EachNumbered (IsOwnBy (procedures_of typed.now) table ranks) 0 own.items → IfOk result (λ all. AreAnswers (procedures_of typed.now) table ranks 0 (procedures_of typed.now) all.items) }
+    ensures { (table ranks : List (List GoalOutcome))
+        → EachNumbered (IsOwnBy (procedures_of typed.now) table ranks) 0 own.items
+        → IfOk result
+        (λ all. AreAnswers (procedures_of typed.now) table ranks 0
+        (procedures_of typed.now) all.items) }
 {
     let marks = marks(alloc, &own)?;
     let mut all = Vec::new(alloc);
@@ -36,7 +43,7 @@ pub(crate) fn answers(
     Ok(all)
 }
 
-/// Which procedures aren't verified by themselves.
+/// Returns for each procedure whether it is not verified in `own`.
 fn marks(alloc: Global, own: &[Answer]) -> Result<Vec<bool>, AllocError>
     ensures { IfOk result (λ marks. marks.items ≡ map is_unverified own.now) }
 {
@@ -56,7 +63,8 @@ fn is_verified(verdict: &Verdict) -> bool
     }
 }
 
-/// The answer on a procedure from that by itself.
+/// Returns the answer on the procedure with the number `p`, of which `own` is the answer by its own
+/// goals.
 fn answer(
     alloc: Global,
     typed: &Typed,
@@ -67,7 +75,10 @@ fn answer(
     requires there { p < length typed.now.procs.items }
     requires rules { MeetsAllRules typed.now }
     requires each { length marks.now ≡ length typed.now.procs.items }
-    ensures { (table ranks : List (List GoalOutcome)) → IsOwnBy (procedures_of typed.now) table ranks p own → AreMarks (procedures_of typed.now) table marks.now → IfOk result (λ a. IsAnswer (procedures_of typed.now) table ranks p a) }
+    ensures { (table ranks : List (List GoalOutcome))
+        → IsOwnBy (procedures_of typed.now) table ranks p own
+        → AreMarks (procedures_of typed.now) table marks.now
+        → IfOk result (λ a. IsAnswer (procedures_of typed.now) table ranks p a) }
 {
     let verdict = verdict_from(alloc, typed, p, own.verdict, marks)?;
     Ok(Answer {
@@ -77,7 +88,8 @@ fn answer(
     })
 }
 
-/// The verdict on a procedure from that by itself.
+/// Returns the verdict on the procedure with the number `p`, of which `own` is the verdict by its
+/// own goals.
 fn verdict_from(
     alloc: Global,
     typed: &Typed,
@@ -88,7 +100,10 @@ fn verdict_from(
     requires there { p < length typed.now.procs.items }
     requires rules { MeetsAllRules typed.now }
     requires each { length marks.now ≡ length typed.now.procs.items }
-    ensures { (table : List (List GoalOutcome)) → IsOwnVerdict (procedure_at (procedures_of typed.now) p) (row_at table p) own → AreMarks (procedures_of typed.now) table marks.now → IfOk result (λ v. IsVerdict (procedures_of typed.now) table p v) }
+    ensures { (table : List (List GoalOutcome))
+        → IsOwnVerdict (procedure_at (procedures_of typed.now) p) (row_at table p) own
+        → AreMarks (procedures_of typed.now) table marks.now
+        → IfOk result (λ v. IsVerdict (procedures_of typed.now) table p v) }
 {
     match own {
         Verdict::Verified => reaching_verdict(alloc, typed, p, marks),
@@ -96,7 +111,8 @@ fn verdict_from(
     }
 }
 
-/// Verified, or conditional on the first procedure among those it reaches that is marked.
+/// Returns `Conditional` on the first procedure reached from `p` that is marked, or `Verified` if
+/// none is.
 fn reaching_verdict(
     alloc: Global,
     typed: &Typed,
@@ -106,7 +122,9 @@ fn reaching_verdict(
     requires there { p < length typed.now.procs.items }
     requires rules { MeetsAllRules typed.now }
     requires each { length marks.now ≡ length typed.now.procs.items }
-    ensures { (table : List (List GoalOutcome)) → IsClosed (procedures_of typed.now) table p → AreMarks (procedures_of typed.now) table marks.now → IfOk result (λ v. IsVerdict (procedures_of typed.now) table p v) }
+    ensures { (table : List (List GoalOutcome)) → IsClosed (procedures_of typed.now) table p
+        → AreMarks (procedures_of typed.now) table marks.now
+        → IfOk result (λ v. IsVerdict (procedures_of typed.now) table p v) }
 {
     let reached = reach(alloc, typed, p)?;
     match first_marked(marks, &reached) {
@@ -115,7 +133,7 @@ fn reaching_verdict(
     }
 }
 
-/// The first of the numbers that is marked.
+/// Returns the first of the numbers that is marked.
 fn first_marked(marks: &[bool], numbers: &[u32]) -> Option<u32>
     requires { All (λ q. q < length marks.now) numbers.now }
     ensures { result ≡ first_marked marks.now numbers.now }

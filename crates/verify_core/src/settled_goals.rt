@@ -1,4 +1,4 @@
-//! What comes of goals, one after the other, by their decisions or by certificates.
+//! The outcomes of a list of goals, by decisions or by certificates.
 
 ghost use Rattle.heyvl_acts.specs.Rules.{Each};
 ghost use Rattle.std.specs.Prelude.{IfOk};
@@ -13,13 +13,14 @@ use std::alloc::{AllocError, Global};
 /// How goals are settled.
 #[derive(Clone, Copy)]
 pub(crate) enum Way<'a> {
-    /// By their decisions.
+    /// By decisions.
     Decide,
-    /// By these certificates.
+    /// By these certificates, which are in the order of their text.
     Check(&'a [GoalCert]),
 }
 
-/// The goals with what comes of them. The certificates of those that are proved by decisions are appended.
+/// Returns the goals with their outcomes. Appends to `certs` the certificates of those that are
+/// proved by decisions.
 pub(crate) fn settle_all(
     alloc: Global,
     way: Way<'_>,
@@ -27,7 +28,8 @@ pub(crate) fn settle_all(
     certs: &mut Vec<GoalCert>,
 ) -> Result<Vec<GoalOutcome>, AllocError>
     requires { Each (CanSettle way) goals.items }
-    ensures { IfOk result (λ all. AreSettled way.entry goals.items all.items certs.old.items certs.new.items) }
+    ensures { IfOk result (λ all.
+        AreSettled way.entry goals.items all.items certs.old.items certs.new.items) }
 {
     let mut all = Vec::new(alloc);
     for goal in goals {
@@ -37,7 +39,7 @@ pub(crate) fn settle_all(
     Ok(all)
 }
 
-/// What comes of a goal. Its certificate is appended, where it is proved by its decision.
+/// Returns the outcome of a goal. Appends its certificate if it is proved by a decision.
 fn settle(
     alloc: Global,
     way: Way<'_>,
@@ -45,7 +47,8 @@ fn settle(
     certs: &mut Vec<GoalCert>,
 ) -> Result<Outcome, AllocError>
     requires { CanSettle way goal.now }
-    ensures { IfOk result (λ outcome. IsSettled way.entry goal.now outcome certs.old.items certs.new.items) }
+    ensures { IfOk result (λ outcome.
+        IsSettled way.entry goal.now outcome certs.old.items certs.new.items) }
 {
     match way {
         Way::Decide => by_decision(alloc, goal, certs),

@@ -1,4 +1,4 @@
-//! The answers of a file.
+//! The answers on a file.
 
 ghost use Rattle.cert_text.specs.Certificates.{IsGrowingAfter, certificates_of};
 ghost use Rattle.heyvl_acts.specs.FormSizes.{FormsWithin};
@@ -26,42 +26,60 @@ use ranking_rule::{ranking_goals_say_rankings, rankings_bound_turns};
 use std::alloc::{AllocError, Global};
 use vp_generator::{generated_form_means_acts, prenexed_goals_speak_of_choices};
 
-/// The answers of the file's procedures: on each bound by its own goals, the procedure's kind and the procedures that it reaches;
-/// on each ranking by its own goal alone. Want of memory is the one error.
+/// Returns the answers on the procedures of the file, by deciding its goals. The answer on a bound
+/// depends on its own goals, the procedure's kind and the procedures that it reaches; the answer on
+/// a ranking depends on its own goal alone.
 pub fn verify(alloc: Global, typed: &Typed) -> Result<Whole, AllocError>
     requires rules { MeetsAllRules typed.now }
     requires small { Each (FormsWithin (2 ^ 27)) (procedures_of typed.now) }
-    ensures answered { IfOk result (λ whole. AreAnswered (procedures_of typed.now) whole.answers.items whole.made.items whole.certs.items) }
-    ensures placed { (bytes : ℕ) → Each (StandsWithin bytes) (procedures_of typed.now) → IfOk result (λ whole. Each (IsAnswerPlaced bytes (length typed.now.procs.items)) whole.answers.items) }
-    ensures headline { IfOk result (λ whole. IsHeadline (procedures_of typed.now) whole.answers.items) }
+    ensures answered { IfOk result
+        (λ whole. AreAnswered (procedures_of typed.now) whole.answers.items whole.made.items
+        whole.certs.items) }
+    ensures placed { (bytes : ℕ) → Each (StandsWithin bytes) (procedures_of typed.now)
+        → IfOk result
+        (λ whole. Each (IsAnswerPlaced bytes (length typed.now.procs.items)) whole.answers.items) }
+    ensures headline { IfOk result
+        (λ whole. IsHeadline (procedures_of typed.now) whole.answers.items) }
 {
     whole_by(alloc, typed, Way::Decide)
 }
 
-/// The answers of the file's procedures, each by the certificates of its own goals, its kind and the procedures that it reaches, and
-/// of the rankings of their loops, each by the certificate of its own goal.
-/// The certificates are in the order of a text. Those of goals that the file doesn't have are not used; of a goal without a form
-/// a certificate is refused at its root. A procedure that is verified has its bound over all runs, and a loop that is ranked that
-/// of its turns. Want of memory is the one error.
+/// Returns the answers on the procedures of the file, by checking its goals with `certs`. The
+/// answer on a bound depends on its own goals, the procedure's kind and the procedures that it
+/// reaches; the answer on a ranking depends on its own goal alone.
+///
+/// The certificates have to be in the order of their text. Certificates of goals that the file does
+/// not have are not used. If a goal's form passes a limit, its certificate is refused at the root.
+/// The bound of a verified procedure holds over all runs, and a ranking bounds the iterations of a
+/// ranked loop.
 pub fn check_all(alloc: Global, typed: &Typed, certs: &[GoalCert]) -> Result<Whole, AllocError>
     requires rules { MeetsAllRules typed.now }
     requires order { IsGrowingAfter None (certificates_of certs.now) }
-    ensures checked { IfOk result (λ whole. IsCheckedFile (procedures_of typed.now) certs.now whole.answers.items) }
-    ensures placed { (bytes : ℕ) → Each (StandsWithin bytes) (procedures_of typed.now) → IfOk result (λ whole. Each (IsAnswerPlaced bytes (length typed.now.procs.items)) whole.answers.items) }
-    ensures headline { IfOk result (λ whole. IsHeadline (procedures_of typed.now) whole.answers.items) }
+    ensures checked { IfOk result
+        (λ whole. IsCheckedFile (procedures_of typed.now) certs.now whole.answers.items) }
+    ensures placed { (bytes : ℕ) → Each (StandsWithin bytes) (procedures_of typed.now)
+        → IfOk result
+        (λ whole. Each (IsAnswerPlaced bytes (length typed.now.procs.items)) whole.answers.items) }
+    ensures headline { IfOk result
+        (λ whole. IsHeadline (procedures_of typed.now) whole.answers.items) }
     ensures made { IfOk result (λ whole. whole.made.items ≡ []) }
     ensures certs { IfOk result (λ whole. whole.certs.items ≡ []) }
 {
     whole_by(alloc, typed, Way::Check(certs))
 }
 
-/// The answers of the file's procedures, where goals are settled in this way.
+/// Returns the answers on the procedures of the file, with goals settled in this way.
 fn whole_by(alloc: Global, typed: &Typed, way: Way<'_>) -> Result<Whole, AllocError>
     requires rules { MeetsAllRules typed.now }
     requires ready { CanAnswer way (procedures_of typed.now) }
-    ensures whole { IfOk result (λ whole. IsWhole way.entry (procedures_of typed.now) whole.answers.items whole.made.items whole.certs.items) }
-    ensures placed { (bytes : ℕ) → Each (StandsWithin bytes) (procedures_of typed.now) → IfOk result (λ whole. Each (IsAnswerPlaced bytes (length typed.now.procs.items)) whole.answers.items) }
-    ensures headline { IfOk result (λ whole. IsHeadline (procedures_of typed.now) whole.answers.items) }
+    ensures whole { IfOk result
+        (λ whole. IsWhole way.entry (procedures_of typed.now) whole.answers.items whole.made.items
+        whole.certs.items) }
+    ensures placed { (bytes : ℕ) → Each (StandsWithin bytes) (procedures_of typed.now)
+        → IfOk result
+        (λ whole. Each (IsAnswerPlaced bytes (length typed.now.procs.items)) whole.answers.items) }
+    ensures headline { IfOk result
+        (λ whole. IsHeadline (procedures_of typed.now) whole.answers.items) }
 {
     made_goals_say_bounds();
     certified_goals_hold();
