@@ -1,4 +1,4 @@
--- The goals of a file with what certificates say of them. This project's own.
+-- The goals of a file, and whether a list of certificates proves them. This project's own.
 use Rattle.std.specs.Prelude.{◌≡◌, ℕ, Bool, List, [], Option, Some, None}
 use Rattle.std.specs.List.{Contains}
 use Rattle.farkas_check.specs.AcceptedCertificates.{IsCertificate, IsNoCertificate}
@@ -16,7 +16,7 @@ use Rattle.verify_core.specs.Tables.{AreBoundsFound, AreRankingsFound, GoalWith}
 use Rattle.verify_core.specs.declared.outcomes.Outcome.{Outcome}
 use Rattle.verify_core.specs.declared.outcomes.Outcome.TheVariants.{Proved, Missed}
 
--- The list has this tree for the goal of a procedure.
+-- `certs` has a certificate with `tree` for the goal `id` of the procedure with the number `proc`.
 pub record HasTree (certs : List GoalCert) (proc : ℕ) (id : GoalId) (tree : Tree) : Type 0 where
   pub cert : GoalCert
   pub listed : Contains certs cert
@@ -24,50 +24,56 @@ pub record HasTree (certs : List GoalCert) (proc : ℕ) (id : GoalId) (tree : Tr
   pub of_goal : cert.id ≡ id
   pub its_tree : tree_of cert.tree ≡ tree
 
--- The tree is a certificate of what was made. A form that passes a limit has no goal, and no certificate.
+-- `Certifies made t`: `t` is a certificate of the goal `made`. A form that passes a limit has no
+-- goal, and so no certificate.
 abbrev pub Certifies : Made → Tree → Type 0
 Certifies (made.Goal g) t = IsCertificate (goal_of g) t
 Certifies made.Depth t = ⊥
 Certifies made.Nodes t = ⊥
 
--- The tree is no certificate of what was made, and this is the first place at which it is refused: the root, where there is no
--- goal.
+-- `IsRefusedAt made t place`: `t` is no certificate of the goal `made`, and `place` is the first
+-- place at which it is refused. If there is no goal, this is the root.
 abbrev pub IsRefusedAt : Made → Tree → List Bool → Type 0
 IsRefusedAt (made.Goal g) t place = IsNoCertificate (goal_of g) t place
 IsRefusedAt made.Depth t place = place ≡ []
 IsRefusedAt made.Nodes t place = place ≡ []
 
--- The list has a certificate of the goal.
+-- `certs` has a certificate of the goal `g`.
 pub record IsGoalAccepted (certs : List GoalCert) (g : NamedGoal) : Type 0 where
   pub tree : Tree
   pub has : HasTree certs g.proc g.id tree
   pub certifies : Certifies g.made tree
 
--- The list has a tree for the goal that is refused first at this place.
+-- `certs` has a tree for the goal `g`, and `place` is the first place at which it is refused.
 pub record IsGoalRefused (certs : List GoalCert) (g : NamedGoal) (place : List Bool) : Type 0 where
   pub tree : Tree
   pub has : HasTree certs g.proc g.id tree
   pub refused : IsRefusedAt g.made tree place
 
--- Why the certificates don't prove the goal: there is none, or the one that there is is refused. None, where it is accepted.
+-- `IsMissOf certs g miss`: why `certs` does not prove the goal `g`. `Absent`: it has no tree for
+-- `g`; `Place`: its tree is refused there; `None`: its tree is a certificate of `g`.
 abbrev pub IsMissOf : List GoalCert → NamedGoal → Option Miss → Type 0
 IsMissOf certs g None = IsGoalAccepted certs g
 IsMissOf certs g (Some Absent) = (t : Tree) → HasTree certs g.proc g.id t → ⊥
 IsMissOf certs g (Some (Place way)) = IsGoalRefused certs g way.items
 
--- A goal and why the certificates don't prove it, if they don't.
+-- A goal, and why the certificates do not prove it, or `None` if they do.
 abbrev pub CheckedGoal : Type 0
 CheckedGoal = GoalWith (Option Miss)
 
--- The checked goals of the procedures' bounds, a list for each procedure from the number p on.
-abbrev pub IsCheckedTable : List TypedProcedure → List GoalCert → ℕ → List TypedProcedure → List (List CheckedGoal) → Type 0
+-- `IsCheckedTable ps certs p qs table`: `table` has for each of the procedures `qs`, numbered from
+-- `p` on, the goals of its bound, checked by `certs`.
+abbrev pub IsCheckedTable : List TypedProcedure → List GoalCert → ℕ → List TypedProcedure
+    → List (List CheckedGoal) → Type 0
 IsCheckedTable ps certs p qs table = AreBoundsFound (IsMissOf certs) ps p qs table
 
--- The checked goals of their rankings, in the same way.
-abbrev pub IsCheckedRankTable : List TypedProcedure → List GoalCert → ℕ → List TypedProcedure → List (List CheckedGoal) → Type 0
+-- `IsCheckedRankTable ps certs p qs table`: `table` has for each of the procedures `qs`, numbered
+-- from `p` on, the goals of its rankings, checked by `certs`.
+abbrev pub IsCheckedRankTable : List TypedProcedure → List GoalCert → ℕ → List TypedProcedure
+    → List (List CheckedGoal) → Type 0
 IsCheckedRankTable ps certs p qs table = AreRankingsFound (IsMissOf certs) ps p qs table
 
--- What comes of a goal by certificates.
+-- The outcome of a goal that is checked by certificates.
 abbrev pub outcome_of : Option Miss → Outcome
 outcome_of None = Proved
 outcome_of (Some m) = Missed m

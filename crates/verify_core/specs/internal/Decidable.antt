@@ -1,4 +1,4 @@
--- What the decision of a goal asks of it. This project's own.
+-- What a goal has to satisfy before it is decided.
 use Rattle.std.specs.Prelude.{◌<◌, ◌^◌, length}
 use Rattle.heylo_formula.specs.Goals.{Goal, goal_of}
 use Rattle.heylo_formula.specs.Sizes.{nodes}
@@ -6,7 +6,8 @@ use Rattle.heylo_formula.specs.TypedGoals.{HasItsVariables, IsTypedGoal}
 use Rattle.heylo_formula.specs.declared.goals.Made.{Made}
 use Rattle.heylo_formula.specs.declared.goals.Made.TheVariants as made
 
--- The goal is typed and over its own variables, and neither its forms nor its variables are too many.
+-- The goal is typed and over its own variables, its forms have fewer than `2 ^ 29` nodes each, and
+-- it has fewer than `2 ^ 31` variables.
 pub record IsDecidable (g : Goal) : Type 0 where
   pub typed : IsTypedGoal g
   pub over : HasItsVariables g
@@ -14,7 +15,7 @@ pub record IsDecidable (g : Goal) : Type 0 where
   pub found : nodes g.found < 2 ^ 29
   pub variables : length g.types < 2 ^ 31
 
--- Of a limit that is passed nothing is asked.
+-- If there is no goal, nothing is required.
 abbrev pub CanDecide : Made → Type 0
 CanDecide (made.Goal g) = IsDecidable (goal_of g)
 CanDecide made.Depth = Unit {0}
