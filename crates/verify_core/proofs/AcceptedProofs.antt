@@ -1,4 +1,5 @@
--- What decisions prove, their certificates show: the one tree for a goal is a certificate, and isn't refused.
+-- The certificates of proved goals are accepted: the one tree for a goal is a certificate, and no
+-- tree is both accepted and refused.
 use Rattle.std.proofs.Common.{◌≡◌, ℕ, refl, ap, sym, subst, ◌∙◌, List, [], ◌∷◌, None, Some, Option, Bool}
 use Prim.Native.Nat.{suc}
 use Rattle.std.specs.List.{AllZip}
@@ -34,7 +35,6 @@ use Rattle.verify_core.proofs.ServedGoals.{proofs_are_accepted}
 same_some : {A : Type 0} (a b : A) → Some a ≡ Some b → a ≡ b
 same_some a b e = cc
 
--- A number names one loop.
 same_loop : (p : TypedProcedure) (n : ℕ) (k l : RankedLoop p n) (m : Made) → ranking.IsMadeOf p k.head k.body k.rank m → ranking.IsMadeOf p l.head l.body l.rank m
 same_loop p n k l m i =
     let both : ◌≡◌ {A = Head × Acts} (k.head, k.body) (l.head, l.body) = same_some (k.head, k.body) (l.head, l.body) (sym k.named ∙ l.named) in
@@ -53,7 +53,6 @@ never_refused law made.Nodes n t place e c r = c
 has_moved : (certs : List GoalCert) (p q : ℕ) (i j : GoalId) (t : Tree) → p ≡ q → i ≡ j → HasTree certs p i t → HasTree certs q j t
 has_moved certs p q i j t e f h = subst (λ x. HasTree certs x j t) e (subst (λ x. HasTree certs p x t) f h)
 
--- A goal that is accepted, and what is said of the same one.
 pub record AreOneGoal (g h : NamedGoal) : Type 0 where
   pub proc : g.proc ≡ h.proc
   pub id_of : g.id ≡ h.id

@@ -1,4 +1,4 @@
--- The formulas of a weak proc that are to be at most 1, and what the goals ask.
+-- The formulas of a proc with `@wlp` that have to be at most 1, and their goals.
 use Rattle.std.proofs.Common.{◌≡◌, ℕ, false, cond, ◌==◌, refl, ap, sym, subst, ◌∙◌, arith, map, List, [], ◌∷◌, ◌++◌, append_assoc, length}
 use Rattle.std.specs.Prelude.{Some}
 use Rattle.std.proofs.lemmas.List.{map-append}
@@ -36,16 +36,14 @@ invariant_ids (Act.check kind f span ∷ rest) = invariant_ids rest
 invariant_ids (Act.validate co span ∷ rest) = invariant_ids rest
 invariant_ids (Act.call xs q es span ∷ rest) = invariant_ids rest
 
--- The goals of a weak proc besides the main one.
 abbrev pub weak_goals : TypedProcedure → List BoundGoal
 weak_goals p = BoundGoal.pre ∷ (BoundGoal.post ∷ map BoundGoal.invariant (loop_numbers (in_order (acts_in p.body))))
 
 pub asked_ids : (p : TypedProcedure) → map (λ (a : Asked). a.0) (asked p) ≡ map goal_id (weak_goals p)
 asked_ids p = ap (λ l. Pre ∷ (Post ∷ l)) (invariant_ids (in_order (acts_in p.body)))
 
--- ---- What they ask
+-- ---- The questions of the goals
 
--- The invariant that the number finds is the asked formula, and has no binder.
 record IsInvariant (m : ℕ) (f : Form) (a : Asked) : Type 0 where
   pub id : a.0 ≡ Invariant m
   pub form : f ≡ a.1
@@ -86,7 +84,6 @@ module _ (ps : List TypedProcedure) (p : TypedProcedure) where
     pub each_is_asked : MeetsRules ps p → HasNamedBinders p → Each (IsAsked ps p) (asked p)
     each_is_asked meets named = (record { asks = λ g i. ap (λ b. question ps p b) (same_goal g BoundGoal.pre i); named = no_names (length (variables p)) p.pre meets.pre.1 }, (record { asks = λ g i. ap (λ b. question ps p b) (same_goal g BoundGoal.post i); named = named }, found_asked (asked_invariants (in_order (acts_in p.body))) (found_from 1 p.loops (in_order (acts_in p.body)) meets.numbered meets.typed)))
 
--- A list with one more at its end, and more behind.
 pub pushed : (before after : List declared.Asked) (x : declared.Asked) (id : GoalId) (f : Form) (rest whole : List Asked) → after ≡ before ++ x ∷ [] → x.id ≡ id → form_of x.form ≡ f → (id, f) ∷ rest ≡ whole → map plain after ++ rest ≡ map plain before ++ whole
 pushed before after x id f rest whole h i j k = ap (λ l. map plain l ++ rest) h ∙ (ap (λ l. l ++ rest) (map-append plain before (x ∷ [])) ∙ (append_assoc (map plain before) (plain x ∷ []) rest ∙ (ap (λ p. map plain before ++ p ∷ rest) (pair i j) ∙ ap (λ l. map plain before ++ l) k)))
   where

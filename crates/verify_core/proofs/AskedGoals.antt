@@ -1,4 +1,4 @@
--- The goal of a question is typed, over its variables and small, as its decision asks.
+-- The goal of a question is typed, over its variables, and small enough to be decided.
 use Rattle.std.proofs.Common.{◌≡◌, ◌<◌, ◌≤◌, ◌^◌, ℕ, refl, sym, ap, ◌∙◌, subst, arith, true, false, List, [], ◌∷◌, ◌++◌, append_assoc, length, ◌==◌}
 use Rattle.std.specs.Prelude.{Some, if◌then◌else◌}
 use Rattle.std.proofs.lemmas.List.{length-append, length-map}
@@ -36,9 +36,9 @@ use Rattle.ranking_rule.proofs.exported.ReadVariables.{ReadsFirst, all_read}
 use Rattle.made_goals.proofs.exported.MadeGoals.{all_names_length, new_types_length}
 use Rattle.ranking_rule.proofs.exported.PrenexedSizes.{nodes_unbound}
 
--- ---- What a question asks of its formulas
+-- ---- Conditions on the formulas of a question
 
--- Two formulas over the question's variables, of which the stated one has no binder.
+-- Both forms are formulas over the question's variables, and the stated one has no binder.
 pub record IsProper (q : Question) : Type 0 where
   pub stated : IsFormula (types_in (type_list q.variables)) q.stated
   pub found : IsFormula (types_in (type_list q.variables)) q.found
@@ -64,7 +64,6 @@ types_length vs = length-map vs (λ (v : Variable). v.ty)
 over_types : (vs : List Variable) (f : Form) → IsOver (length vs) f → IsOver (length (type_list vs)) f
 over_types vs f h = subst (λ n. IsOver n f) (sym (types_length vs)) h
 
--- A formula over the first variables is one over all.
 formula_front : (us vs : List Variable) (f : Form) → IsOver (length us) f → IsFormula (types_in (type_list us)) f → IsFormula (types_in (type_list (us ++ vs))) f
 formula_front us vs f o h = ap is_unsigned (same_types f (types_in (type_list (us ++ vs))) (types_in (type_list us)) (λ y e. front_same us vs y (o y e))) ∙ h
 
@@ -81,7 +80,6 @@ proper_bound p f few h o = record {
   few = omega (arith, few);
 }
 
--- An invariant of the acts is a formula over the procedure's variables.
 proper_invariant : (ps : List TypedProcedure) (p : TypedProcedure) (n : ℕ) (acts : List Act) → Each (IsTypedAct ps p) acts → Each (ReadsFirst (length (variables p))) acts → IsFormula (types_of p) (form_or_zero (invariant_in n acts)) × IsOver (length (variables p)) (form_or_zero (invariant_in n acts))
 proper_invariant ps p n [] t o = (zero_unsigned (types_of p), λ y e. absurd (cc))
 proper_invariant ps p n (Act.loop h b ∷ rest) t o = elim (h.number == n) as (λ c. IsFormula (types_of p) (form_or_zero (invariant_at (if c then Some (h, b) else loop_in n rest))) × IsOver (length (variables p)) (form_or_zero (invariant_at (if c then Some (h, b) else loop_in n rest)))) [ true ↦ (t.0.inv.0, o.0.0) | false ↦ proper_invariant ps p n rest t.1 o.1 ]
@@ -96,7 +94,7 @@ proper_invariant ps p n (Act.check kind f span ∷ rest) t o = proper_invariant 
 proper_invariant ps p n (Act.validate co span ∷ rest) t o = proper_invariant ps p n rest t.1 o.1
 proper_invariant ps p n (Act.call xs q es span ∷ rest) t o = proper_invariant ps p n rest t.1 o.1
 
--- ---- The questions of a procedure of a file that meets the rules
+-- ---- The questions of a procedure of a file that satisfies the rules
 
 pub all_front : (ps : List TypedProcedure) (p : TypedProcedure) → all_variables ps p ≡ p.inputs ++ (p.outputs ++ (p.locals ++ fresh ps (acts_in p.body)))
 all_front ps p = append_assoc p.inputs (p.outputs ++ p.locals) (fresh ps (acts_in p.body)) ∙ ap (λ l. p.inputs ++ l) (append_assoc p.outputs p.locals (fresh ps (acts_in p.body)))
@@ -107,7 +105,6 @@ interface_front ps p = all_front ps p ∙ sym (append_assoc p.inputs p.outputs (
 own_front : (p : TypedProcedure) → variables p ≡ (p.inputs ++ p.outputs) ++ p.locals
 own_front p = sym (append_assoc p.inputs p.outputs p.locals)
 
--- Few variables.
 pub few_variables : (ps : List TypedProcedure) (p : TypedProcedure) → ((q : ℕ) → q < length ps → MeetsRules ps (procedure_at ps q)) → MeetsRules ps p → length (all_variables ps p) ≤ 1280
 few_variables ps p rules meets =
     let a = meets.few_variables in
@@ -142,11 +139,9 @@ module _ (formula : GeneratedFormIsFormula) (over : GeneratedFormIsOver) (encode
 
 -- ---- Goals
 
--- The goal of a proper question is a goal.
 pub goal_is : PrenexedGoalsAreGoals → (q : Question) → IsProper q → IsGoal (goal q)
 goal_is goals q h = goals q.upper (type_list q.variables) (all_names q.variables q.found) q.stated q.found h.stated h.found h.stated_over h.found_over h.plain (all_names_length q.variables q.found)
 
--- It is small, where the found form passes no limit and the stated one is small.
 pub goal_small : (q : Question) → IsProper q → IsSmall q.found → nodes q.stated ≤ 2 ^ 27 → IsFew (goal q)
 goal_small q h s l =
     let n = nodes_unbound (λ x. x) (length (type_list q.variables)) q.found in

@@ -1,4 +1,4 @@
--- Certificates in the order of a text: where the certificate of a goal stands.
+-- In a list of certificates in the order of their text, the certificate of a goal has one place.
 use Rattle.std.proofs.Common.{◌≡◌, ℕ, Bool, true, ◌||◌, ◌&&◌, ◌==◌, ◌<◌, ◌≤◌, refl, ap, sym, subst, ◌∙◌, arith, List, [], ◌∷◌, length, slice_index_or, nat_lt, Option, Some, None, ◌⊎◌, inl, inr}
 use Prim.Native.Nat.{zero, suc}
 use Rattle.std.specs.List.Sorted.{IsPartitionedBy}
@@ -16,7 +16,6 @@ use Rattle.verify_core.specs.internal.CertificateAnswers.{IsPlaceOf, name_of}
 abbrev goal_name : ℕ → GoalId → GoalName
 goal_name k id = record { proc = k; id = id }
 
--- Three numbers before three others, the earlier ones first.
 abbrev first_of_three : ℕ → ℕ → ℕ → ℕ → ℕ → ℕ → Bool
 first_of_three a b c x y z = nat_lt a x || (a == x && (nat_lt b y || (b == y && nat_lt c z)))
 
@@ -48,7 +47,6 @@ any_default [] k d e l = absurd (omega (arith, l))
 any_default (c ∷ cs) zero d e l = refl
 any_default (c ∷ cs) (suc k) d e l = any_default cs k d e (omega (arith, l))
 
--- The certificates of earlier goals stand before the others.
 pub earlier_first : (cs : List GoalCert) (n : GoalName) → IsGrowingAfter None (certificates_of cs) → IsPartitionedBy (λ c. precedes (name_of c) n) cs
 earlier_first cs n g i j d h l before = from (cases_lt i j)
   where
@@ -56,7 +54,6 @@ earlier_first cs n g i j d h l before = from (cases_lt i j)
     from (inl e) = precedes_onward (name_of (slice_index_or cs i d)) (name_of (slice_index_or cs j d)) n (in_order None cs i j d g e l) before
     from (inr e) = let same : j ≡ i = omega (arith, h, e) in subst (λ k. precedes (name_of (slice_index_or cs k d)) n ≡ true) same before
 
--- A certificate of the goal stands at its place or nowhere.
 pub at_its_place : (cs : List GoalCert) (n : GoalName) (place : ℕ) (t : Tree) → IsGrowingAfter None (certificates_of cs) → IsPlaceOf cs n place → HasTree cs n.proc n.id t → (place < length cs) × ((d : GoalCert) → name_of (slice_index_or cs place d) ≡ n)
 at_its_place cs n place t g is has = from (cases_order k place)
   where
@@ -80,7 +77,6 @@ at_its_place cs n place t g is has = from (cases_order k place)
     from (inr (inl l)) = absurd (not_before_itself n (subst (λ x. precedes x n ≡ true) named_at (is.before k has.cert l)))
     from (inr (inr l)) = absurd (false≢true (sym (is.behind place has.cert (omega arith) (place_below l)) ∙ subst (λ x. precedes (name_of (slice_index_or cs place has.cert)) x ≡ true) named_at (in_order None cs place k has.cert g l has.listed.1)))
 
--- The list has one tree at most for a goal.
 pub one_tree : (cs : List GoalCert) (proc : ℕ) (id : GoalId) (t u : Tree) → IsGrowingAfter None (certificates_of cs) → HasTree cs proc id t → HasTree cs proc id u → t ≡ u
 one_tree cs proc id t u g a b = from (cases_order a.listed.0 b.listed.0)
   where

@@ -1,5 +1,5 @@
--- What certificates say of goals, computed: of rankings with one that is accepted, one that is missing and one that is refused; and
--- of goals of which one is proved.
+-- Checks of goals, computed: of three rankings one is accepted, one has no certificate and one is
+-- refused; of two goals one is proved.
 use Rattle.std.proofs.Common.{◌≡◌, ◌<◌, ℕ, refl, ap, ◌∙◌, arith, Bool, List, [], ◌∷◌, map, slice_index_or}
 use Rattle.std.specs.Prelude.{Some, None, Vec}
 use Rattle.std.specs.declared.alloc.Global.{Global}
@@ -28,7 +28,7 @@ module _ (t u : T.Tree) (way : Vec Bool Global) (a b c : Made) where
   abbrev certs : List GoalCert
   certs = (record { proc = 0; id = Ranking 1; tree = t }) ∷ ((record { proc = 0; id = Ranking 4; tree = u }) ∷ [])
 
-  -- The first is accepted, there is none for the second, and the third is refused.
+  -- The first is accepted, the second has no certificate, and the third is refused.
   abbrev row : List CheckedGoal
   row = (record { goal = goal_named (Ranking 1) a; found = None }) ∷ ((record { goal = goal_named (Ranking 3) b; found = Some Absent }) ∷ ((record { goal = goal_named (Ranking 4) c; found = Some (Place way) }) ∷ []))
 
@@ -68,32 +68,30 @@ module _ (t u : T.Tree) (way : Vec Bool Global) (a b c : Made) where
   abbrev refused : LoopAnswer
   refused = record { number = 4; rank = rank.Unchecked (Place way) }
 
-  -- The answers on the loops.
   abbrev answers : List LoopAnswer
   answers = map loop_answer (outcomes outcome_of row)
 
   answered : answers ≡ ranked ∷ (missing ∷ (refused ∷ []))
   answered = refl
 
-  -- Without a certificate nothing is accepted, and no loop is ranked.
   not_accepted : IsMissOf certs (goal_named (Ranking 3) b) None → ⊥
   not_accepted h = no_tree h.tree h.has
 
   not_ranked : answers ≡ ranked ∷ ((record { number = 3; rank = rank.Ranked }) ∷ (refused ∷ [])) → ⊥
   not_ranked h = let e : rank.Unchecked Absent ≡ rank.Ranked = ap (λ (l : LoopAnswer). l.rank) (first_of missing (record { number = 3; rank = rank.Ranked }) (refused ∷ []) (refused ∷ []) (others_of ranked ranked _ _ h)) in cc
 
-  -- What is refused isn't missing.
+  -- A refused certificate is not an absent one.
   not_missing : answers ≡ ranked ∷ (missing ∷ ((record { number = 4; rank = rank.Unchecked Absent }) ∷ [])) → ⊥
   not_missing h = let e : rank.Unchecked (Place way) ≡ rank.Unchecked Absent = ap (λ (l : LoopAnswer). l.rank) (first_of refused (record { number = 4; rank = rank.Unchecked Absent }) [] [] (others_of missing missing _ _ (others_of ranked ranked _ _ h))) in cc
 
-  -- Loops aren't numbered from 0, and none is left out.
+  -- Loops are not numbered from 0, and each has its answer.
   not_from_0 : (ls : List LoopAnswer) → answers ≡ (record { number = 0; rank = rank.Ranked }) ∷ ls → ⊥
   not_from_0 ls h = let e : 1 ≡ 0 = ap (λ (l : LoopAnswer). l.number) (first_of ranked (record { number = 0; rank = rank.Ranked }) _ ls h) in omega (arith, e)
 
   not_fewer : answers ≡ ranked ∷ (missing ∷ []) → ⊥
   not_fewer h = none_more refused [] (others_of missing missing _ _ (others_of ranked ranked _ _ h))
 
--- ---- Two goals, of which one is proved and of the other nothing is known
+-- ---- Two goals: one is proved, the other is unknown
 
 module _ (t : T.Tree) (m n : Made) where
   abbrev proved : DecidedGoal
@@ -108,7 +106,6 @@ module _ (t : T.Tree) (m n : Made) where
   abbrev certificate : GoalCert
   certificate = record { proc = 0; id = Main; tree = t }
 
-  -- Only the proved one has a certificate.
   certified : certified_in_file table ([] ∷ []) ≡ certificate ∷ []
   certified = refl
 
@@ -129,10 +126,9 @@ module _ (t : T.Tree) (m n : Made) where
       no_proof : IsServed (certificate ∷ []) unknown
       no_proof s e = absurd (cc)
 
-  -- Without the certificate it isn't served.
   not_served : IsServed [] proved → ⊥
   not_served h = let l = (h t refl).has.listed.1 in omega (arith, l)
 
-  -- Certificates in another order aren't those of a text.
+  -- In another order, the certificates are not those of a text.
   not_in_order : IsGrowingAfter None (certificates_of ((record { proc = 0; id = Ranking 1; tree = t }) ∷ (certificate ∷ []))) → ⊥
   not_in_order h = let e = h.1.0 in cc

@@ -1,4 +1,4 @@
--- The goals that are made of a procedure of a file that meets the rules can be decided.
+-- The goals of a file that satisfies the rules can be decided.
 use Rattle.std.proofs.Common.{◌<◌, ◌≤◌, ◌^◌, ℕ, arith, List, [], ◌∷◌, length, None}
 use Rattle.heylo_formula.specs.Sizes.{nodes}
 use Rattle.heylo_formula.specs.declared.goals.Made.{Made}
@@ -44,22 +44,19 @@ module _ (goals : PrenexedGoalsAreGoals) (formula : GeneratedFormIsFormula) (ove
 ranking_can : RankingGoalsAreGoals → RankingGoalsAreFew → (ps : List TypedProcedure) (p : TypedProcedure) (n : ℕ) (l : RankedLoop p n) (m : Made) → MeetsRules ps p → FormsWithin (2 ^ 27) p → ranking.IsMadeOf p l.head l.body l.rank m → CanDecide m
 ranking_can goals few ps p n l m rules small h = decidable (ranking.generated l.body l.rank) (ranking.goal p l.head l.body l.rank) m (goals ps p n l rules) (λ k. few ps p n l rules small k) h
 
--- So can those of its rankings.
 each_ranking_can : RankingGoalsAreGoals → RankingGoalsAreFew → (ps : List TypedProcedure) (p : ℕ) → MeetsRules ps (procedure_at ps p) → FormsWithin (2 ^ 27) (procedure_at ps p) → (ns : List ℕ) (gs : List NamedGoal) → AreRankingGoals ps p ns gs → Each (λ (g : NamedGoal). CanDecide g.made) gs
 each_ranking_can goals few ps p rules small ns gs h = zip_seconds (IsRankingGoal ps p) (λ g. CanDecide g.made) ns gs (λ n g k. ranking_can goals few ps (procedure_at ps p) n k.ranked g.made rules small k.made) h
 
--- ---- In either way
+-- ---- By decisions or by certificates
 
 each_can_settle : (certs : List GoalCert) (gs : List NamedGoal) → IsGrowingAfter None (certificates_of certs) → Each (λ (g : NamedGoal). IsGrowingAfter None (certificates_of certs)) gs
 each_can_settle certs [] h = tt
 each_can_settle certs (g ∷ gs) h = (h, each_can_settle certs gs h)
 
--- The goals of a bound can be settled, where the file can be answered.
 pub bounds_settle : PrenexedGoalsAreGoals → GeneratedFormIsFormula → GeneratedFormIsOver → EncodingIsOver → (ps : List TypedProcedure) → Each (MeetsRules ps) ps → (p : ℕ) → p < length ps → (way : Way) → CanAnswer way ps → (asked : List BoundGoal) (gs : List NamedGoal) → AreGoals ps p asked gs → Each (CanSettle way) gs
 bounds_settle goals formula over encoded ps rules p there Decide small asked gs h = each_can goals formula over encoded ps rules small p there asked gs h
 bounds_settle goals formula over encoded ps rules p there (Check certs) order asked gs h = each_can_settle certs.now gs order
 
--- So can those of rankings.
 pub rankings_settle : RankingGoalsAreGoals → RankingGoalsAreFew → (ps : List TypedProcedure) (p : ℕ) → p < length ps → MeetsRules ps (procedure_at ps p) → (way : Way) → CanAnswer way ps → (ns : List ℕ) (gs : List NamedGoal) → AreRankingGoals ps p ns gs → Each (CanSettle way) gs
 rankings_settle goals few ps p there rules Decide small ns gs h = each_ranking_can goals few ps p rules (each_at (FormsWithin (2 ^ 27)) ps p small there) ns gs h
 rankings_settle goals few ps p there rules (Check certs) order ns gs h = each_can_settle certs.now gs order

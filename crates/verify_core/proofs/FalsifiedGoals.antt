@@ -1,4 +1,5 @@
--- A goal that fails in a state as it was made fails there by the meaning of formulas.
+-- If a goal without binders fails in a state, the formulas it was made from fail there by their
+-- meaning.
 use Rattle.std.proofs.Common.{◌≡◌, ◌<◌, ℕ, refl, sym, ap, ◌∙◌, subst, append_assoc, List, [], ◌∷◌, ◌++◌, length, take}
 use Rattle.std.proofs.lemmas.List.{length-map}
 use Rattle.std.specs.Prelude.{Option, Some, None}
@@ -50,7 +51,6 @@ first_typed [] us r h = take_none r
 first_typed (t ∷ tys) us [] h = absurd h
 first_typed (t ∷ tys) us (u ∷ r) h = (h.0, first_typed tys us r h.1)
 
--- The first values are a state of the variables, where all are one of these and of others.
 first_state : (vs : List Variable) (us : List Ty) (r : List Val) → IsTyped (type_list vs ++ us) r → IsTyped (type_list vs) (take (length vs) r)
 first_state vs us r h = subst (λ n. IsTyped (type_list vs) (take n r)) (types_length vs) (first_typed (type_list vs) us r h)
 
@@ -59,7 +59,6 @@ small_fails None s c h k = h zero-≤ᵛ-one
 small_fails (Some f) s c h k = h k
 
 module _ (means : GeneratedFormMeansActs) (formula : GeneratedFormIsFormula) (generated_over : GeneratedFormIsOver) (over : EncodingIsOver) (failing : PrenexedGoalsFailByChoices) (ps : List TypedProcedure) (rules : Each (MeetsRules ps) ps) (p : ℕ) (there : p < length ps) where
-  -- The inequality of the question fails in the state of its own variables.
   question_fails : (asked : BoundGoal) (s : List Val) → Fails (goal (question ps (procedure_at ps p) asked)) s → FailsByChoices (question ps (procedure_at ps p) asked).upper (type_list (question ps (procedure_at ps p) asked).variables) (question ps (procedure_at ps p) asked).stated (question ps (procedure_at ps p) asked).found (take (length (type_list (question ps (procedure_at ps p) asked).variables)) s)
   question_fails asked s h =
       let q = question ps (procedure_at ps p) asked in
@@ -88,14 +87,12 @@ module _ (means : GeneratedFormMeansActs) (formula : GeneratedFormIsFormula) (ge
   own_state BoundGoal.post s h = first_state (variables (procedure_at ps p)) _ s h
   own_state (BoundGoal.invariant n) s h = first_state (variables (procedure_at ps p)) _ s h
 
-  -- The question speaks of the goal's variables.
   variables_are : (asked : BoundGoal) → length (type_list (question ps (procedure_at ps p) asked).variables) ≡ length (goal_variables ps (procedure_at ps p) asked)
   variables_are BoundGoal.main = types_length (all_variables ps (procedure_at ps p))
   variables_are BoundGoal.pre = types_length (variables (procedure_at ps p))
   variables_are BoundGoal.post = types_length (variables (procedure_at ps p))
   variables_are (BoundGoal.invariant n) = types_length (variables (procedure_at ps p))
 
-  -- The goal is falsified in what is shown.
   pub falsified_in : (asked : BoundGoal) (s : List Val) → Fails (goal (question ps (procedure_at ps p) asked)) s → IsFalsifiedIn ps p (goal_id asked) s
   falsified_in asked s h = record {
     goal = asked;

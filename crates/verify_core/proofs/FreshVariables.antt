@@ -1,4 +1,4 @@
--- The main goals that are made count the fresh variables and lack them, since the goals of their questions do.
+-- The main goals count the fresh variables and lack them, as the goals of their questions do.
 use Rattle.std.proofs.Common.{◌≡◌, ◌∙◌, ℕ, ap, false}
 use Rattle.heylo_formula.specs.Goals.{Goal}
 use Rattle.heylo_formula.specs.Variables.{occurs}

@@ -1,4 +1,4 @@
--- What lists of outcomes tell.
+-- Lists of outcomes: the goal that a verdict reports, and whether all are proved.
 use Rattle.std.proofs.Common.{◌≡◌, ◌⊎◌, ℕ, refl, sym, ap, ◌∙◌, subst, append-nil, append_assoc, Bool, true, false, List, [], ◌∷◌, ◌++◌, length, map, inl, inr, ⊎_elim}
 use Rattle.std.proofs.lemmas.Bool.{false≢true}
 use Rattle.std.proofs.lemmas.List.{map-append}
@@ -13,12 +13,11 @@ use Rattle.verify_core.specs.declared.outcomes.GoalOutcome.{GoalOutcome}
 use Rattle.verify_core.specs.declared.outcomes.Outcome.{Outcome}
 use Rattle.verify_core.specs.declared.outcomes.Outcome.TheVariants.{Proved, Falsified, Unknown, Missed}
 
--- A list of length 0 is empty.
 pub nothing_left : {A : Type 0} (n : ℕ) (xs : List A) → n ≡ length xs → n ≡ 0 → xs ≡ []
 nothing_left n [] e z = refl
 nothing_left n (x ∷ xs) e z = absurd (cc)
 
--- ---- The first one with an outcome, goal by goal
+-- ---- The first goal with an outcome
 
 or_none : (kept : Option GoalOutcome) → option_or kept None ≡ kept
 or_none None = refl
@@ -47,7 +46,7 @@ falsified_not_open (Falsified s) e = refl
 falsified_not_open (Unknown c) e = absurd (false≢true e)
 falsified_not_open (Missed m) e = absurd (false≢true e)
 
--- ---- The one that is told
+-- ---- The reported goal
 
 or_cases : (a b : Option GoalOutcome) (o : GoalOutcome) → option_or a b ≡ Some o → (a ≡ Some o) ⊎ (b ≡ Some o)
 or_cases None b o e = inr e
@@ -76,7 +75,6 @@ open_unproved (Falsified s) e = refl
 open_unproved (Unknown c) e = refl
 open_unproved (Missed m) e = refl
 
--- What is so of each goal is so of the one that is told, and this isn't proved.
 pub told_is : (P : GoalOutcome → Type 0) (os : List GoalOutcome) (o : GoalOutcome) → Each P os → told os ≡ Some o → P o × (is_proved o.outcome ≡ false)
 told_is P os o h e = ⊎_elim (λ a. let f = first_is P is_falsified os o h a in (f.0, falsified_unproved o.outcome f.1)) (λ b. let f = first_is P is_open os o h b in (f.0, open_unproved o.outcome f.1)) (or_cases (first_with is_falsified os) (first_with is_open os) o e)
 
@@ -84,7 +82,6 @@ unit_each : (os : List GoalOutcome) → Each (λ o. Unit {0}) os
 unit_each [] = tt
 unit_each (o ∷ os) = (tt, unit_each os)
 
--- A goal that is proved isn't told.
 pub proved_untold : (os : List GoalOutcome) (o : GoalOutcome) → told os ≡ Some o → o.outcome ≡ Proved → ⊥
 proved_untold os o e h = false≢true (sym (told_is (λ x. Unit {0}) os o (unit_each os) e).1 ∙ ap is_proved h)
 
@@ -114,18 +111,16 @@ none_by g (Falsified s) os e f = absurd (cc)
 none_by g (Unknown c) os e f = absurd (some_left (first_with is_falsified os) (record { goal = g; outcome = Unknown c }) e)
 none_by g (Missed m) os e f = absurd (some_left (first_with is_falsified os) (record { goal = g; outcome = Missed m }) e)
 
--- Where none is told, all are proved.
 pub none_told : (os : List GoalOutcome) → told os ≡ None → all_proved os ≡ true
 none_told [] e = refl
 none_told (o ∷ os) e = none_by o.goal o.outcome os e (none_told os)
 
--- ---- Those whose state or cause is told
+-- ---- Goals whose state or cause is reported
 
 pub shown_more : (os : List GoalOutcome) (o : GoalOutcome) → all_shown os ++ shown o ≡ all_shown (os ++ o ∷ [])
 shown_more [] o = sym (append-nil (shown o))
 shown_more (x ∷ os) o = append_assoc (shown x) (all_shown os) (shown o) ∙ ap (λ l. shown x ++ l) (shown_more os o)
 
--- The answers on loops, and one more.
 pub answer_more : (os : List GoalOutcome) (o : GoalOutcome) (xs ys : List LoopAnswer) (a : LoopAnswer) → ys ≡ xs ++ a ∷ [] → xs ≡ map loop_answer os → a.number ≡ loop_of o.goal.id → a.rank ≡ rank_of o.outcome → ys ≡ map loop_answer (os ++ o ∷ [])
 answer_more os o xs ys a e h n r = e ∙ (ap (λ l. l ++ a ∷ []) h ∙ (ap (λ x. map loop_answer os ++ x ∷ []) same ∙ sym (map-append loop_answer os (o ∷ []))))
   where

@@ -1,5 +1,6 @@
--- What a report that says `verified` promises of small programs, one for each kind of act: taken from the headline alone, at states
--- whose outputs have any values, and under a scheduler that has seen the run so far.
+-- What the answer `verified` promises about small programs, one for each kind of act. Each example
+-- follows from the headline alone, at states whose outputs have any values, and under a scheduler
+-- that sees the run so far.
 use Rattle.std.proofs.Common.{refl, ℕ, Bool, true, false, List, [], ◌∷◌}
 use Rattle.std.specs.Prelude.{Some}
 use Rattle.heyvl_num.specs.Rational.{Rational, halfʳ}
@@ -42,19 +43,20 @@ lower x = only (Act.set x (Term.truth (Cond.constant false)) nowhere)
 abbrev coin : List (Rational × Term)
 coin = (halfʳ, Term.truth (Cond.constant true)) ∷ (halfʳ, Term.truth (Cond.constant false)) ∷ []
 
--- The report says of the only procedure of a file that it is verified.
+-- The answer on the only procedure of a file is `verified`.
 record IsReported (p : TypedProcedure) (answers : List Answer) : Type 0 where
   headline : IsHeadline (p ∷ []) answers
   verdict : IsVerdictOn answers 0 Verified
 
--- The procedure's runs of at most n steps, from this state and under this scheduler: rewards and posts, or posts and what still runs.
+-- The sums over runs of at most n steps, from the state `s` and under the scheduler `t`: reward and
+-- post, or post and the mass not yet terminated.
 abbrev upper_of : TypedProcedure → ℕ → List Val → Tree → Value
 upper_of p n s t = sum_of true p.post (runs (p ∷ []) n (begin (p ∷ []) 0 s) t)
 
 abbrev weak_of : TypedProcedure → ℕ → List Val → Tree → Value
 weak_of p n s t = sum_of false p.post (runs (p ∷ []) n (begin (p ∷ []) 0 s) t)
 
--- ---- A draw: a coin shows true with probability 1/2 at most, also where the output was true before
+-- ---- A draw: a flip yields true with probability at most 1/2, also if the output was true before
 
 abbrev tossing : TypedProcedure
 tossing = record nobody { outputs = flag 1 ∷ []; pre = Form.number (finite halfʳ); post = Form.iverson (Cond.flag 0); body = Some (only (Act.draw 0 coin nowhere)) }
@@ -62,7 +64,7 @@ tossing = record nobody { outputs = flag 1 ∷ []; pre = Form.number (finite hal
 tossing_shows_true : (answers : List Answer) → IsReported tossing answers → (n : ℕ) (t : Tree) → upper_of tossing n (Truth true ∷ []) t ≤ᵛ finite halfʳ
 tossing_shows_true answers r n t = r.headline.verified 0 r.verdict (Truth true ∷ []) (refl, refl) n t
 
--- ---- A reward: 1 at most is collected
+-- ---- A reward: the expected reward is at most 1
 
 abbrev paying : TypedProcedure
 paying = record nobody { pre = one; body = Some (only (Act.reward one nowhere)) }
@@ -70,7 +72,7 @@ paying = record nobody { pre = one; body = Some (only (Act.reward one nowhere)) 
 paying_collects : (answers : List Answer) → IsReported paying answers → (n : ℕ) (t : Tree) → upper_of paying n [] t ≤ᵛ oneᵛ
 paying_collects answers r n t = r.headline.verified 0 r.verdict [] refl n t
 
--- ---- An if: from an input that is false, an output that was true ends as false
+-- ---- An if: if the input is false, an output that was true becomes false
 
 abbrev copying : TypedProcedure
 copying = record nobody {
@@ -84,7 +86,7 @@ copying = record nobody {
 copying_copies : (answers : List Answer) → IsReported copying answers → (n : ℕ) (t : Tree) → upper_of copying n (Truth false ∷ Truth true ∷ []) t ≤ᵛ zeroᵛ
 copying_copies answers r n t = r.headline.verified 0 r.verdict (Truth false ∷ Truth true ∷ []) (refl, (refl, refl)) n t
 
--- ---- A choice of the scheduler, each way
+-- ---- A choice of the scheduler, for both choices
 
 abbrev may_raise : TypedProcedure
 may_raise = record nobody { outputs = flag 1 ∷ []; pre = one; post = Form.iverson (Cond.flag 0); body = Some (only (Act.pick true (raise 0) (lower 0) nowhere)) }
@@ -108,7 +110,7 @@ must_raise = record nobody {
 must_raise_is_bounded : (answers : List Answer) → IsReported must_raise answers → (n : ℕ) (t : Tree) → oneᵛ ≤ᵛ weak_of must_raise n (Truth true ∷ Truth false ∷ []) t
 must_raise_is_bounded answers r n t = r.headline.verified 0 r.verdict (Truth true ∷ Truth false ∷ []) (refl, (refl, refl)) n t
 
--- ---- Any value, each way
+-- ---- A havoc, for both values
 
 abbrev guessing : TypedProcedure
 guessing = record nobody {
@@ -118,7 +120,7 @@ guessing = record nobody {
   body = Some (Acts.next (Act.draw 0 coin nowhere) (only (Act.any 1 true Ty.Bool nowhere)));
 }
 
--- A scheduler that has seen the coin.
+-- A scheduler that sees the result of the flip.
 abbrev seeing : Tree
 seeing = Tree.node Decision.none (Forest.trees (decided true) (Forest.trees (decided false) Forest.no_trees))
   where

@@ -1,4 +1,4 @@
--- What the answers of a file promise, of its goals and of its runs, from what comes of its goals.
+-- The promises of answers, about goals and about runs, follow from the outcomes of the goals.
 use Rattle.std.proofs.Common.{◌≡◌, ◌<◌, ℕ, sym, ap, ◌∙◌, subst, append-nil, arith, true, List, [], ◌∷◌, ◌++◌, length, take}
 use Rattle.std.proofs.lemmas.Bool.{false≢true}
 use Rattle.std.specs.List.{AllZip}
@@ -86,14 +86,12 @@ said ps table ranks answers p v h on =
     record { verdict = subst (IsVerdict ps table p) on.verdict r.is.verdict; there = r.there }
 
 module _ (same : MadeGoalsSayBounds) (shown_bounds : ShownBoundsHold) (broken_goals : BrokenGoalsBreakBounds) (over : EncodingIsOver) (means : GeneratedFormMeansActs) (formula : GeneratedFormIsFormula) (generated_over : GeneratedFormIsOver) (failing : PrenexedGoalsFailByChoices) (ps : List TypedProcedure) (rules : Each (MeetsRules ps) ps) (table ranks : List (List GoalOutcome)) (are : AreOutcomes ps table ranks) where
-  -- The goals of a procedure hold, where all are proved.
   held : (p : ℕ) → p < length ps → all_proved (row_at table p) ≡ true → BoundGoalsHold ps (procedure_at ps p)
   held p l e = each_there (λ b. Holds (goal (question ps (procedure_at ps p) b))) (GoalHolds ps (procedure_at ps p)) (bound_goals (procedure_at ps p)) (λ b. (same ps p b rules l).0) (row_holds ps p (bound_goals (procedure_at ps p)) (row_at table p) (are.bounds p l) (each_proved (row_at table p) e))
 
   shown : (q : ℕ) → IsClosed ps table q → IsShown ps q
   shown q h = record { program = h.program; goals = held q (program_there ps q h.program) h.proved }
 
-  -- What is shown of the first goal that is falsified.
   false_as_shown : (p : ℕ) (id : GoalId) (s : Vec Val Global) → p < length ps → IsTold (row_at table p) id (outcome.Falsified s) → IsFalseAsShown ps p id s.items
   false_as_shown p id s l t =
       let k = told_means ps p (bound_goals (procedure_at ps p)) (row_at table p) id (outcome.Falsified s) (are.bounds p l) t in

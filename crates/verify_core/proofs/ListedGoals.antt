@@ -1,4 +1,4 @@
--- The goals of a procedure in their order.
+-- The goals of a procedure, in their order.
 use Rattle.std.proofs.Common.{◌≡◌, ℕ, refl, sym, ap, ap₂, ◌∙◌, subst, true, false, List, [], ◌∷◌, ◌++◌, append_assoc, map}
 use Rattle.std.specs.Option.{is_some}
 use Rattle.std.specs.Prelude.{Option, Some, None, Vec}
@@ -26,21 +26,18 @@ use Rattle.verify_core.proofs.SideBySide.{zip_more}
 questions_more : (q : TypedProcedure) (before : List NamedQuestion) (ys : List declared.Asked) (y : declared.Asked) → (before ++ map (asked_question q) (map plain ys)) ++ asked_question q (plain y) ∷ [] ≡ before ++ map (asked_question q) (map plain (ys ++ y ∷ []))
 questions_more q before ys y = append_assoc before (map (asked_question q) (map plain ys)) (asked_question q (plain y) ∷ []) ∙ ap (λ l. before ++ l) (sym (ap (λ l. map (asked_question q) l) (map-append plain ys (y ∷ [])) ∙ map-append (asked_question q) (map plain ys) (plain y ∷ [])))
 
--- One goal more.
 pub pushed_goal : (q : TypedProcedure) (p : ℕ) (x : TProc) (before after : List NamedGoal) (g : NamedGoal) (questions : List NamedQuestion) (ys : List declared.Asked) (y : declared.Asked) → q ≡ procedure_of x → g.proc ≡ p → g.id ≡ y.id → IsMadeOf (one_bound (procedure_of x) (form_of y.form)) g.made → after ≡ before ++ g ∷ [] → AreMadeFor p (questions ++ map (asked_question q) (map plain ys)) before → AreMadeFor p (questions ++ map (asked_question q) (map plain (ys ++ y ∷ []))) after
 pushed_goal q p x before after g questions ys y here i j m e h =
     subst (λ l. AreMadeFor p (questions ++ map (asked_question q) (map plain (ys ++ y ∷ []))) l) (sym e) (
     subst (λ l. AreMadeFor p l (before ++ g ∷ [])) (questions_more q questions ys y) (
     zip_more (IsMadeFor p) (questions ++ map (asked_question q) (map plain ys)) before (asked_question q (plain y)) g h (record { proc = i; id_of = j; made = subst (λ (r : TypedProcedure). IsMadeOf (one_bound r (form_of y.form)) g.made) (sym here) m })))
 
--- Goals that are made for what goals of the bound ask are these.
 goals_are_made : (ps : List TypedProcedure) (p : ℕ) (goals : List BoundGoal) (gs : List NamedGoal) → AreMadeFor p (map (own_question ps (procedure_at ps p)) goals) gs → AreGoals ps p goals gs
 goals_are_made ps p [] [] h = tt
 goals_are_made ps p [] (g ∷ gs) h = absurd h
 goals_are_made ps p (b ∷ goals) [] h = absurd h
 goals_are_made ps p (b ∷ goals) (g ∷ gs) h = (record { proc = h.0.proc; id_of = h.0.id_of; made = h.0.made }, goals_are_made ps p goals gs h.1)
 
--- What is asked of formulas is what the goals of these names ask.
 asked_are : (ps : List TypedProcedure) (q : TypedProcedure) (goals : List BoundGoal) (all : List Asked) → map (λ (a : Asked). a.0) all ≡ map goal_id goals → Each (IsAsked ps q) all → map (asked_question q) all ≡ map (own_question ps q) goals
 asked_are ps q [] [] e h = refl
 asked_are ps q [] (a ∷ all) e h = absurd (cc)
@@ -50,7 +47,7 @@ asked_are ps q (b ∷ goals) (a ∷ all) e h =
     let others : map (λ (x : Asked). x.0) all ≡ map goal_id goals = cc in
     ap₂ (λ (x : NamedQuestion) (l : List NamedQuestion). x ∷ l) (ap (λ i. (i, one_bound q a.1)) first ∙ ap (λ k. (goal_id b, k)) (sym (h.0.asks b (sym first)))) (asked_are ps q goals all others h.1)
 
--- ---- Which goals there are
+-- ---- The list of a procedure's goals
 
 pub none_of : (b : Option (Vec A.Act Global)) → is_some b ≡ false → body_of b ≡ None
 none_of None h = refl

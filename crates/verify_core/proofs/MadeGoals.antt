@@ -1,4 +1,4 @@
--- What is made of a goal, and what its decision or its certificate says of the goal.
+-- A goal, and the meaning of its decision or of its certificate.
 use Rattle.std.proofs.Common.{◌≡◌, ◌≤◌, ℕ, sym, ◌∙◌, subst, arith, List}
 use Rattle.std.specs.Prelude.{Option, Some, None}
 use Rattle.heyvl_places.specs.declared.spans.Span.{Span}
@@ -34,9 +34,8 @@ use Rattle.verify_core.specs.declared.settled_goals.Way.TheVariants.{Decide, Che
 use Rattle.verify_core.specs.internal.Decidable.{CanDecide, IsDecidable}
 use Rattle.verify_core.specs.internal.SettledGoals.{Finding, Finds, TellsOf, outcome_by}
 
--- ---- What may be made
+-- ---- Goals and limits
 
--- It can be decided.
 pub decidable : (f : Form) (g : Goal) (m : Made) → IsGoal g → (IsSmall f → IsFew g) → IsMadeWithin f g m → CanDecide m
 decidable f g (made.Goal x) i few h =
     let k = few h.1 in
@@ -44,7 +43,6 @@ decidable f g (made.Goal x) i few h =
 decidable f g made.Depth i few h = tt
 decidable f g made.Nodes i few h = tt
 
--- Where the first is a goal, the second is the same one.
 abbrev pub MadeAlike : Made → Made → Type 0
 MadeAlike (made.Goal g) (made.Goal h) = goal_of g ≡ goal_of h
 MadeAlike (made.Goal g) made.Depth = ⊥
@@ -52,7 +50,7 @@ MadeAlike (made.Goal g) made.Nodes = ⊥
 MadeAlike made.Depth n = Unit {0}
 MadeAlike made.Nodes n = Unit {0}
 
--- The same is made twice.
+-- A question has one goal at most.
 pub made_alike : (f : Form) (g : Goal) (m n : Made) → IsMadeWithin f g m → IsMadeWithin f g n → MadeAlike m n
 made_alike f g (made.Goal x) (made.Goal y) a b = a.0 ∙ sym b.0
 made_alike f g (made.Goal x) made.Depth a b = let s = a.1.shallow in omega (arith, s, b)
@@ -60,10 +58,10 @@ made_alike f g (made.Goal x) made.Nodes a b = let s = a.1.few in omega (arith, s
 made_alike f g made.Depth n a b = tt
 made_alike f g made.Nodes n a b = tt
 
--- ---- What comes of a goal
+-- ---- Outcomes
 
--- What comes of a goal says so much: it holds, or it fails in this state, or the place that the cause names is in the text where its
--- first product is.
+-- The meaning of an outcome: the goal holds; or it fails in this state; or the place in the cause
+-- is that of the goal's first nonlinear product.
 abbrev pub Means : Goal → Outcome → Type 0
 Means g outcome.Proved = Holds g
 Means g (outcome.Falsified s) = Fails g s.items
@@ -73,7 +71,7 @@ Means g (outcome.Missed m) = Unit {0}
 same_cause : (c d : Cause) → ◌≡◌ {A = Decision} (Unknown c) (Unknown d) → c ≡ d
 same_cause c d e = cc
 
--- The place that the cause names is in the text, where the goal's first product is.
+-- The place in the cause is in the text, if the goal's first nonlinear product is.
 cause_placed : (n : ℕ) (f : Form) (g : Goal) (m : Made) (c : Cause) → ((s : Span) → nonlinear_product g ≡ Some s → s.from ≤ n) → IsMadeWithin f g m → IsDecisionOf m (Unknown c) → IsCausePlaced n c
 cause_placed n f g (made.Goal x) cause.Depth w h k = tt
 cause_placed n f g (made.Goal x) cause.Nodes w h k = tt
@@ -103,7 +101,6 @@ miss_means : CertifiedGoalsHold → (f : Form) (g : Goal) (certs : List GoalCert
 miss_means law f g certs x None s h k = certified_holds law f g x.made k.tree s h k.certifies
 miss_means law f g certs x (Some m) s h k = tt
 
--- In either way.
 pub means : CertifiedGoalsHold → (way : Way) (f : Form) (g : Goal) (x : NamedGoal) (a : Finding way) → IsTypedGoal g → IsMadeWithin f g x.made → Finds way x a → Means g (outcome_by way a)
 means law Decide f g x d s h k = decision_means f g x.made d h k.0 k.1
 means law (Check certs) f g x m s h k = miss_means law f g certs.now x m s h k

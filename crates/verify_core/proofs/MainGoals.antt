@@ -1,4 +1,4 @@
--- The main goal of a procedure: what is generated from its encoding over its post, and its variables.
+-- The main goal of a procedure: the pre-expectation of the encoded body, and its variables.
 use Rattle.std.proofs.Common.{◌≡◌, ◌<◌, ◌≤◌, ◌^◌, ℕ, sym, ap, ap₂, ◌∙◌, subst, arith, Bool, List, [], ◌∷◌, length, get_or, map}
 use Rattle.std.proofs.lemmas.List.{length-append, length-map}
 use Rattle.heylo_formula.specs.BinderNames.{Binder, binders}
@@ -69,6 +69,5 @@ module _ (typed : Typed) (p : ℕ) (x : TProc) (rules : MeetsAllRules typed) (lt
           subst (λ us. IsMadeWithin (vp (encoding (procedures_of typed) (procedure_at (procedures_of typed) p)) (form_of x.post)) (goal_over x.co us (form_of x.pre) (vp (encoding (procedures_of typed) (procedure_at (procedures_of typed) p)) (form_of x.post))) made) all (
           subst (λ a. IsMadeWithin (vp a (form_of x.post)) (goal_over x.co (map variable_of vs) (form_of x.pre) (vp a (form_of x.post))) made) encodes h))
 
--- The goal that a formula is at most 1.
 pub bound_made : (x : TProc) (vs : List VarInfo) (f one : Form) (made : Made) → vs ≡ x.vars.items → one ≡ (one_bound (procedure_of x) f).stated → IsMadeWithin f (goal_over Bool.true (map variable_of vs) one f) made → IsMadeOf (one_bound (procedure_of x) f) made
 bound_made x vs f one made d o h = subst (λ g. IsMadeWithin f (goal_over Bool.true (variables (procedure_of x)) g f) made) o (subst (λ us. IsMadeWithin f (goal_over Bool.true us one f) made) (ap (λ l. map variable_of l) d ∙ sym (own_variables x)) h)

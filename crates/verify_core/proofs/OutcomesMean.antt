@@ -1,4 +1,4 @@
--- What the outcomes of a file's goals mean: of bounds, and of rankings.
+-- The meaning of the outcomes of a file's goals, of bounds and of rankings.
 use Rattle.std.proofs.Common.{◌≡◌, ◌<◌, ℕ, ap, subst, sym, List, [], ◌∷◌, length}
 use Rattle.std.specs.List.{AllZip}
 use Rattle.farkas_check.specs.CertificateLaws.{CertifiedGoalsHold}
@@ -29,18 +29,15 @@ use Rattle.vp_generator.specs.Laws.{GeneratedFormIsFormula}
 use Rattle.vp_generator.specs.Over.{GeneratedFormIsOver}
 use Rattle.vp_generator.specs.PrenexedGoals.{PrenexedGoalsAreGoals}
 
--- The goal of a bound, and what comes of it.
 pub record IsBoundOutcome (ps : List TypedProcedure) (p : ℕ) (asked : BoundGoal) (o : GoalOutcome) : Type 0 where
   pub id_of : o.goal.id ≡ goal_id asked
   pub means : Means (goal (question ps (procedure_at ps p) asked)) o.outcome
 
--- The goal of a ranking, and what comes of it.
 pub record IsRankingOutcome (ps : List TypedProcedure) (p n : ℕ) (o : GoalOutcome) : Type 0 where
   pub loop : RankedLoop (procedure_at ps p) n
   pub number : loop_of o.goal.id ≡ n
   pub means : Means (ranking.goal (procedure_at ps p) loop.head loop.body loop.rank) o.outcome
 
--- The goals of each procedure in the file.
 pub record AreOutcomes (ps : List TypedProcedure) (table ranks : List (List GoalOutcome)) : Type 0 where
   pub bounds : (p : ℕ) → p < length ps → AllZip (IsBoundOutcome ps p) (bound_goals (procedure_at ps p)) (row_at table p)
   pub rankings : (p : ℕ) → p < length ps → AllZip (IsRankingOutcome ps p) (ranked_loops (procedure_at ps p)) (row_at ranks p)
@@ -70,16 +67,15 @@ module _ (law : CertifiedGoalsHold) (goals : PrenexedGoalsAreGoals) (formula : G
         means law way (ranking.generated l.body l.rank) (ranking.goal q l.head l.body l.rank) g.goal g.found (rankings ps q n l (each_at (MeetsRules ps) ps p rules there)).typed f.goal.made f.found;
   }) h
 
-  -- What is found of a file's goals says so much of them.
   pub are_outcomes : (table ranks : List (List (GoalWith (Finding way)))) → AreBoundsFound (Finds way) ps 0 ps table → AreRankingsFound (Finds way) ps 0 ps ranks → AreOutcomes ps (all_outcomes (outcome_by way) table) (all_outcomes (outcome_by way) ranks)
   are_outcomes table ranks b r = record {
     bounds = λ p l. row_of (λ k q os. k < length ps → AllZip (IsBoundOutcome ps k) (bound_goals q) os) ps (all_outcomes (outcome_by way) table) p l (numbered_map (λ k q gs. AreFound (IsGoalOf ps k) (Finds way) (bound_goals q) gs) (λ k q os. k < length ps → AllZip (IsBoundOutcome ps k) (bound_goals q) os) (outcomes (outcome_by way)) 0 ps table (λ k q gs h there. bound_row k (bound_goals q) gs there h) b) l;
     rankings = λ p l. row_of (λ k q os. k < length ps → AllZip (IsRankingOutcome ps k) (ranked_loops q) os) ps (all_outcomes (outcome_by way) ranks) p l (numbered_map (λ k q gs. AreFound (IsRankingGoal ps k) (Finds way) (ranked_loops q) gs) (λ k q os. k < length ps → AllZip (IsRankingOutcome ps k) (ranked_loops q) os) (outcomes (outcome_by way)) 0 ps ranks (λ k q gs h there. ranking_row k (ranked_loops q) gs there h) r) l;
   }
 
--- ---- The goal that a verdict tells
+-- ---- The goal that a verdict reports
 
--- It is this goal of the bound, and what comes of it says so much of it.
+-- It is the goal `asked` of the bound, and its outcome has its meaning.
 pub record IsToldOf (ps : List TypedProcedure) (p : ℕ) (id : GoalId) (o : Outcome) : Type 0 where
   pub asked : BoundGoal
   pub named : goal_id asked ≡ id

@@ -1,4 +1,4 @@
--- The answers on procedures by their own goals, one after the other, and their tables.
+-- The answers on procedures by their own goals, and the tables of their outcomes.
 use Rattle.std.proofs.Common.{◌≡◌, ℕ, ◌+◌, ◌<◌, refl, sym, ap, ◌∙◌, subst, append-nil, append_assoc, arith, Bool, false, List, [], ◌∷◌, ◌++◌, length, map, get_or, take}
 use Prim.Native.Nat.{zero, suc}
 use Rattle.goal_answers.specs.declared.named_goals.NamedGoal.{NamedGoal}
@@ -153,7 +153,7 @@ are_marks ps table ranks answers ms h sized e q l =
 
 -- ---- Answers
 
--- The answers so far, and the others by themselves.
+-- The answers before `p` are complete, and the other ones are by the procedures' own goals.
 abbrev pub AnsweredTo : List TypedProcedure → List (List GoalOutcome) → List (List GoalOutcome) → ℕ → List Answer → List Answer → Type 0
 AnsweredTo ps table ranks p answers own = EachNumbered (IsAnswer ps table ranks) 0 answers × EachNumbered (IsOwnBy ps table ranks) p own
 

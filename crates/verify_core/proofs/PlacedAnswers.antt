@@ -1,4 +1,4 @@
--- What the answers of a file name is in its text, where the procedures stand within it.
+-- The places that answers name are in the text, if those of the procedures are.
 use Rattle.std.proofs.Common.{◌≡◌, ◌<◌, ◌≤◌, ◌+◌, ◌==◌, ◌||◌, ℕ, refl, sym, ap, ◌∙◌, subst, arith, Bool, true, false, not, List, [], ◌∷◌, length, map, ⊎_elim}
 use Rattle.std.proofs.lemmas.Bool.{cases_eq, false≢true, ne_eqb, or_cases}
 use Rattle.std.specs.List.{AllZip}

@@ -1,4 +1,4 @@
--- The verdict on a procedure by its kind, and by its own goals.
+-- The verdict on a procedure by its kind and by its own goals.
 use Rattle.std.proofs.Common.{◌≡◌, ℕ, ◌+◌, ◌<◌, Bool, true, false, not, refl, ap, sym, subst, ◌∙◌, List, [], ◌∷◌, ◌++◌, get_or, length, take, Option, Some, None, if◌then◌else◌}
 use Rattle.std.proofs.lemmas.Bool.{false≢true}
 use Prim.Native.Nat.{zero, suc}
@@ -19,7 +19,7 @@ use Rattle.verify_core.specs.internal.Marks.{IsMark, is_verified}
 use Rattle.verify_core.specs.internal.Own.{IsKindVerdict, IsOwnVerdict, verdict_for}
 use Rattle.verify_core.proofs.GoalOutcomes.{told_unproved}
 
--- ---- Its kind
+-- ---- The kind
 
 another_reason : (b c : Bool) (o : Option Span) → (if b then Some Reason.no_wlp else (if c then Some Reason.quantifier else reason_of_break o)) ≡ Some Reason.no_body → ⊥
 another_reason true c o e = cc
@@ -33,7 +33,6 @@ no_other p r b e n = n (inside (e ∙ ap (λ x. why_no_program (record p { body 
     inside : Some r ≡ Some Reason.no_body → r ≡ Reason.no_body
     inside h = cc
 
--- Where there is a body, that there is none is no reason.
 without_body : (p : TypedProcedure) → why_no_program p ≡ Some Reason.no_body → p.body ≡ None
 without_body p e = of_body p.body refl
   where
@@ -41,7 +40,6 @@ without_body p e = of_body p.body refl
     of_body None h = h
     of_body (Some acts) h = absurd (another_reason _ _ _ (subst (λ x. why_no_program (record p { body = x }) ≡ Some Reason.no_body) h e))
 
--- The verdict for a reason: that there is no body, or else that it is valid.
 pub of_reason : (p : TypedProcedure) (w : WhyNot) → Some (plain w) ≡ why_no_program p → IsKindVerdict p (verdict_for w)
 of_reason p why.NoBody e = without_body p (sym e)
 of_reason p why.NoWlp e = ((λ b. no_other p _ b e (λ h. cc)), sym e)
@@ -59,7 +57,6 @@ of_kind q os (verdict.NotVerified id s) e h = absurd h
 of_kind q os (verdict.Unknown id c) e h = absurd h
 of_kind q os (verdict.Conditional r) e h = absurd h
 
--- A procedure that isn't verified by itself isn't closed.
 not_closed : (q : TypedProcedure) (os : List GoalOutcome) (v : Verdict) → IsOwnVerdict q os v → is_verified v ≡ false → all_proved os ≡ true → IsProgram q → ⊥
 not_closed q os verdict.Verified h e f g = false≢true (sym e)
 not_closed q os verdict.NoBody h e f g = apart (sym (ap (λ x. why_no_program (record q { body = x })) h) ∙ g)
@@ -81,16 +78,13 @@ closed q os (verdict.NotVerified id s) h e = absurd (false≢true e)
 closed q os (verdict.Unknown id c) h e = absurd (false≢true e)
 closed q os (verdict.Conditional r) h e = absurd (false≢true e)
 
--- A procedure that is verified by itself is closed.
 pub closes : (ps : List TypedProcedure) (table : List (List GoalOutcome)) (p : ℕ) (v : Verdict) → IsOwnVerdict (procedure_at ps p) (row_at table p) v → is_verified v ≡ true → IsClosed ps table p
 closes ps table p v h e = let k = closed (procedure_at ps p) (row_at table p) v h e in record { proved = k.0; program = k.1 }
 
--- The mark of a procedure tells whether it is closed.
 pub own_mark : (ps : List TypedProcedure) (table : List (List GoalOutcome)) (q : ℕ) (v : Verdict) (b : Bool) → is_verified v ≡ b → IsOwnVerdict (procedure_at ps q) (row_at table q) v → IsMark ps table q (not b)
 own_mark ps table q v true e h = closes ps table q v h e
 own_mark ps table q v false e h = λ c. not_closed (procedure_at ps q) (row_at table q) v h e c.proved c.program
 
--- The verdict of a procedure that isn't verified by itself stays.
 pub stays : (ps : List TypedProcedure) (table : List (List GoalOutcome)) (p : ℕ) (v : Verdict) → IsOwnVerdict (procedure_at ps p) (row_at table p) v → (v ≡ verdict.Verified → ⊥) → IsVerdict ps table p v
 stays ps table p verdict.Verified h e = absurd (e refl)
 stays ps table p verdict.NoBody h e = h

@@ -1,4 +1,4 @@
--- The first mark is the first open procedure that is reached.
+-- The first marked procedure that is reached is the first one that is not closed.
 use Rattle.std.proofs.Common.{◌≡◌, ◌<◌, ◌≤◌, ◌==◌, ◌||◌, ℕ, refl, sym, ap, ◌∙◌, subst, arith, Bool, true, false, List, [], ◌∷◌, length, get_or, ⊎_elim}
 use Rattle.std.proofs.lemmas.Bool.{cases_eq, eq-eqb, ne_eqb, or_cases, false≢true}
 use Rattle.std.specs.Prelude.{Some, None, if◌then◌else◌}
@@ -68,7 +68,7 @@ all_within from n [] h k d l = absurd (omega arith)
 all_within from n (x ∷ xs) h zero d l = h.0.1
 all_within from n (x ∷ xs) h (suc k) d l = all_within (suc x) n xs h.1 k d (omega arith)
 
--- ---- What a first mark says
+-- ---- What a mark means
 
 module _ (ps : List TypedProcedure) (table : List (List GoalOutcome)) (p : ℕ) (ms : List Bool) (found : List ℕ) (reached : AreReached ps p found) (are : AreMarks ps table ms) where
   unmarked_closed : (r : ℕ) → among found r ≡ true → get_or ms r false ≡ false → IsClosed ps table r

@@ -1,4 +1,4 @@
--- Answers by decisions, or by certificates, keep the promises of the headline.
+-- Answers by decisions or by certificates keep the promises of the headline.
 use Rattle.std.proofs.Common.{◌≡◌, ◌<◌, ◌+◌, ℕ, sym, subst, arith, List, [], ◌∷◌, length}
 use Rattle.std.specs.Borrow.{Bor}
 use Prim.Native.Nat.{suc}
@@ -41,15 +41,14 @@ use Rattle.vp_generator.specs.Laws.{GeneratedFormIsFormula, GeneratedFormMeansAc
 use Rattle.vp_generator.specs.Over.{GeneratedFormIsOver}
 use Rattle.vp_generator.specs.PrenexedGoals.{IsMadeWithin, PrenexedGoalsAreGoals, PrenexedGoalsFailByChoices}
 
--- ---- What decisions tell
+-- ---- The meaning of decisions
 
--- The decision of a goal tells of its states.
 told : DecisionsTell → (f : Form) (g : Goal) (m : Made) (d : Decision) → IsGoal g → IsMadeWithin f g m → IsDecisionOf m d → TellsOf m d
 told tell f g (made.Goal x) d i h k = tell (goal_of x) d (subst IsTypedGoal (sym h.0) i.typed) (subst HasItsVariables (sym h.0) i.over) k
 told tell f g made.Depth d i h k = tt
 told tell f g made.Nodes d i h k = tt
 
--- The decision of a goal that is such a one tells of its states.
+-- Each decision of a goal for which `Is` holds has its meaning.
 abbrev Tell : {I : Type 0} → (I → NamedGoal → Type 0) → Type 0
 Tell {I} Is = (i : I) (g : NamedGoal) (d : Decision) → Is i g → IsDecisionOf g.made d → TellsOf g.made d
 
@@ -68,7 +67,6 @@ table_tells Is ids n k (q ∷ qs) (r ∷ table) e f h = (row_tells (Is k) (ids q
 
 -- ---- The promises
 
--- The laws of the crates below.
 pub record Laws : Type 0 where
   pub tell : DecisionsTell
   pub certified : CertifiedGoalsHold

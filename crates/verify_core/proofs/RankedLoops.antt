@@ -1,4 +1,4 @@
--- A ranking whose goal holds bounds the turns of its loop.
+-- A ranking whose goal holds bounds the iterations of its loop.
 use Rattle.std.proofs.Common.{◌≡◌, ℕ, ◌<◌, refl, sym, ◌∙◌, subst, arith, List, [], ◌∷◌, length, map, slice_index_or}
 use Rattle.std.specs.List.{AllZip, Contains}
 use Rattle.std.specs.Prelude.{Vec}
@@ -25,16 +25,14 @@ use Rattle.verify_core.proofs.OutcomesMean.{IsRankingOutcome}
 
 -- ---- From the goal
 
--- The loop whose goal holds is bounded in its turns.
 pub turns_bounded : RankingsBoundTurns → RankingGoalsHold → (ps : List TypedProcedure) (p n : ℕ) (l : RankedLoop (procedure_at ps p) n) → Each (MeetsRules ps) ps → p < length ps → Holds (goal (procedure_at ps p) l.head l.body l.rank) → IsRankedLoop ps p n
 turns_bounded bound hold ps p n l rules there h =
     let meets = each_at (MeetsRules ps) ps p rules there in
     let is = (hold ps (procedure_at ps p) n l meets).1 h in
     record { loop = l; ranking = is; turns = bound ps p n l meets is }
 
--- ---- From what comes of it
+-- ---- From the outcome of the goal
 
--- What comes of the goal of the loop that an answer is on.
 pub record IsOutcomeAt (ps : List TypedProcedure) (p : ℕ) (a : LoopAnswer) : Type 0 where
   pub goal : GoalOutcome
   pub is_of : IsRankingOutcome ps p a.number goal
@@ -55,7 +53,6 @@ ranked_by (Falsified s) e = cc
 ranked_by (Unknown c) e = cc
 ranked_by (Missed m) e = cc
 
--- An answer that a loop is ranked.
 pub ranked_loop : RankingsBoundTurns → RankingGoalsHold → (ps : List TypedProcedure) (p n : ℕ) (ns : List ℕ) (os : List GoalOutcome) (ls : List LoopAnswer) (a : LoopAnswer) → Each (MeetsRules ps) ps → p < length ps → AllZip (IsRankingOutcome ps p) ns os → ls ≡ map loop_answer os → Contains ls a → a.number ≡ n → a.rank ≡ Ranked → IsRankedLoop ps p n
 ranked_loop bound hold ps p n ns os ls a rules there h r c e v =
     let x = outcome_at ps p ns os ls a h r c in
@@ -69,7 +66,6 @@ falsified_by (Falsified t) s e = cc
 falsified_by (Unknown c) s e = cc
 falsified_by (Missed m) s e = cc
 
--- An answer that a loop is not ranked.
 pub unranked_as_shown : (ps : List TypedProcedure) (p n : ℕ) (ns : List ℕ) (os : List GoalOutcome) (ls : List LoopAnswer) (a : LoopAnswer) (s : Vec Val Global) → AllZip (IsRankingOutcome ps p) ns os → ls ≡ map loop_answer os → Contains ls a → a.number ≡ n → a.rank ≡ NotRanked s → IsUnrankedAsShown ps p n s.items
 unranked_as_shown ps p n ns os ls a s h r c e v =
     let x = outcome_at ps p ns os ls a h r c in

@@ -16,7 +16,6 @@ use Rattle.verify_core.proofs.FirstFound.{IsFirst, further, other_number, own_nu
 
 -- ---- The loops that they name
 
--- The loop that the number finds has this number, and a ranking.
 record HasRanking (m : ℕ) (l : Head × Acts) (n : ℕ) : Type 0 where
   pub number : m ≡ n
   pub rank : Rational × Form
@@ -51,13 +50,11 @@ each_loop : (p : TypedProcedure) (from : ℕ) (ns : List ℕ) → Each (IsRanked
 each_loop p from [] h = tt
 each_loop p from (n ∷ ns) h = (record { head = h.0.item.0; body = h.0.item.1; rank = h.0.says.rank; named = subst (λ m. loop_in m (in_order (acts_in p.body)) ≡ Some h.0.item) h.0.says.number h.0.found; ranked = h.0.says.ranked }, each_loop p from ns h.1)
 
--- Each number names a loop with a ranking.
 pub each_ranked : (ps : List TypedProcedure) (p : TypedProcedure) → MeetsRules ps p → Each (RankedLoop p) (ranked_loops p)
 each_ranked ps p meets = each_loop p 1 (ranked_loops p) (ranked_from 1 p.loops (in_order (acts_in p.body)) meets.numbered)
 
--- ---- Their goals
+-- ---- The goals of the rankings
 
--- The goals so far and those of the numbers that are left are those of all numbers.
 abbrev pub GoalsTo : List TypedProcedure → ℕ → List ℕ → List ℕ → List NamedGoal → Type 0
 GoalsTo ps p all left gs = (more : List NamedGoal) → AreRankingGoals ps p left more → AreRankingGoals ps p all (gs ++ more)
 

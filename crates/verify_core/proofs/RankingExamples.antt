@@ -1,4 +1,5 @@
--- What is said of rankings, computed: which loops have one, the goals of a procedure in their order, and the answers by decisions.
+-- Answers on rankings, computed: the loops with a ranking, the goals of a procedure in their order,
+-- and the answers by decisions.
 use Rattle.std.proofs.Common.{◌≡◌, ℕ, refl, ap, sym, ◌∙◌, arith, true, List, [], ◌∷◌, ◌++◌, map}
 use Rattle.std.specs.Prelude.{Option, Some, None}
 use Rattle.heyvl_num.specs.Rational.{Rational, oneʳ}
@@ -46,18 +47,18 @@ inner = (oneʳ, Form.number oneᵛ)
 abbrev pub last : Rational × Form
 last = (oneʳ, Form.variable 0)
 
--- A loop without a ranking, and one with a ranking.
 abbrev pub two_loops : Acts
 two_loops = Acts.next (Act.loop (head 2 None) Acts.done) (only (Act.loop (head 3 (Some inner)) Acts.done))
 
--- A loop with a ranking around those two, and behind it one with a ranking in an if.
+-- A loop with a ranking around these two, followed by one with a ranking in an if.
 abbrev pub nested : TypedProcedure
 nested = record nobody {
   body = Some (Acts.next (Act.loop (head 1 (Some outer)) two_loops) (only (Act.ifs (Arms.arm (Cond.constant true) (only (Act.loop (head 4 (Some last)) Acts.done)) Arms.no_arm) Acts.done nowhere)));
   loops = 4;
 }
 
--- An outer loop comes before those inside it, these before those behind it; and one without a ranking is left out.
+-- An outer loop precedes the loops in its body, and these the loops after it. A loop without a
+-- ranking is left out.
 ranked_ones : ranked_loops nested ≡ 1 ∷ (3 ∷ (4 ∷ []))
 ranked_ones = refl
 
@@ -76,7 +77,6 @@ third_loop = record { head = head 4 (Some last); body = Acts.done; rank = last; 
 same_some : {A : Type 0} (a b : A) → Some a ≡ Some b → a ≡ b
 same_some a b e = cc
 
--- The loop with the number 2 has none.
 no_ranking : RankedLoop nested 2 → ⊥
 no_ranking l =
     let named : ◌≡◌ {A = Head × Acts} (head 2 None, Acts.done) (l.head, l.body) = same_some (head 2 None, Acts.done) (l.head, l.body) l.named in
@@ -89,7 +89,6 @@ no_ranking l =
 abbrev pub goal_named : GoalId → Made → NamedGoal
 goal_named id m = record { proc = 0; id = id; made = m }
 
--- What is made for its bound, and for its rankings.
 pub record AreMade (m a b c : Made) : Type 0 where
   pub main : IsMadeOf (question (nested ∷ []) nested BoundGoal.main) m
   pub outer_one : ranking.IsMadeOf nested (head 1 (Some outer)) two_loops outer a
@@ -105,7 +104,6 @@ three_goals m a b c h = (
   ),
 )
 
--- The goal of the bound comes first, and then one for each ranking.
 all_goals : (m a b c : Made) → AreMade m a b c → AreAllGoals (nested ∷ []) 0 (goal_named Main m ∷ (goal_named (Ranking 1) a ∷ (goal_named (Ranking 3) b ∷ (goal_named (Ranking 4) c ∷ []))))
 all_goals m a b c h = record {
   bounds = goal_named Main m ∷ [];
@@ -119,15 +117,14 @@ first_is_main : (bounds rankings : List NamedGoal) (g : NamedGoal) (gs : List Na
 first_is_main [] rankings g gs h e = absurd h
 first_is_main (b ∷ bounds) rankings g gs h e = let same : g ≡ b = cc in ap (λ (x : NamedGoal). x.id) same ∙ h.0.id_of
 
--- No ranking's goal comes first.
 not_rankings_first : (a : Made) (gs : List NamedGoal) → AreAllGoals (nested ∷ []) 0 (goal_named (Ranking 1) a ∷ gs) → ⊥
 not_rankings_first a gs h = let e : Ranking 1 ≡ Main = first_is_main h.bounds h.rankings (goal_named (Ranking 1) a) gs h.bound h.all_are in cc
 
--- The loops aren't numbered from 0.
+-- The loops are not numbered from 0.
 not_from_0 : (a : Made) (gs : List NamedGoal) → AreRankingGoals (nested ∷ []) 0 (ranked_loops nested) (goal_named (Ranking 0) a ∷ gs) → ⊥
 not_from_0 a gs h = let e : 0 ≡ 1 = ap loop_of h.0.id_of in omega (arith, e)
 
--- None is left out.
+-- Each loop with a ranking has its goal.
 not_fewer : (a b : Made) → AreRankingGoals (nested ∷ []) 0 (ranked_loops nested) (goal_named (Ranking 1) a ∷ (goal_named (Ranking 3) b ∷ [])) → ⊥
 not_fewer a b h = h.1.1
 
@@ -145,22 +142,19 @@ ranked = record { number = 1; rank = rank.Ranked }
 abbrev unknown : LoopAnswer
 unknown = record { number = 2; rank = rank.Unknown cause.Depth }
 
--- Only what isn't proved is told, in a procedure and in the file.
+-- An answer reports only goals that are not proved.
 told : all_shown (outcomes outcome_of (proved ∷ open_goal ∷ [])) ≡ open_goal.goal ∷ []
 told = refl
 
 told_of_all : told_in_file ([] ∷ []) (all_outcomes outcome_of ((proved ∷ open_goal ∷ []) ∷ [])) ≡ open_goal.goal ∷ []
 told_of_all = refl
 
--- A proof without a tree has no certificate.
 certified : certified_in_file ([] ∷ []) ((proved ∷ open_goal ∷ []) ∷ []) ≡ []
 certified = refl
 
--- The answers on loops by their decided goals.
 abbrev AreRanked : List DecidedGoal → List LoopAnswer → Type 0
 AreRanked ds ls = ls ≡ map loop_answer (outcomes outcome_of ds)
 
--- Each loop by its own goal.
 answered : AreRanked (proved ∷ open_goal ∷ []) (ranked ∷ unknown ∷ [])
 answered = refl
 
@@ -173,7 +167,7 @@ others_of a b xs ys e = cc
 pub none_more : (a : LoopAnswer) (xs : List LoopAnswer) → a ∷ xs ≡ [] → ⊥
 none_more a xs e = cc
 
--- An answer on a loop without a ranking, or none on one with a ranking.
+-- A loop without a ranking has no answer.
 not_more : AreRanked (proved ∷ []) (ranked ∷ unknown ∷ []) → ⊥
 not_more h = none_more unknown [] (others_of ranked ranked (unknown ∷ []) [] h)
 
@@ -183,7 +177,7 @@ not_one_less h = none_more unknown [] (sym (others_of ranked ranked [] (unknown 
 numbered_from_0 : AreRanked (proved ∷ []) ((record { number = 0; rank = rank.Ranked }) ∷ []) → ⊥
 numbered_from_0 h = let e : 0 ≡ 1 = ap (λ (l : LoopAnswer). l.number) (first_of (record { number = 0; rank = rank.Ranked }) ranked [] [] h) in omega (arith, e)
 
--- A procedure whose bound is proved, and of whose one ranking nothing is known.
+-- A procedure whose bound is proved, and whose only ranking is unknown.
 abbrev single : TypedProcedure
 single = record nobody { body = Some (only (Act.loop (head 1 (Some outer)) Acts.done)); loops = 1 }
 
@@ -193,6 +187,6 @@ bound_proved = record { goal = goal_named Main made.Depth; found = Proved None }
 abbrev ranking_open : DecidedGoal
 ranking_open = record { goal = goal_named (Ranking 1) made.Depth; found = Unknown cause.Depth }
 
--- The proof of the bound doesn't answer the ranking.
+-- The proof of the bound does not settle the ranking.
 not_by_bound : (a : Answer) → a.loops.items ≡ ranked ∷ [] → IsAnswer (single ∷ []) (all_outcomes outcome_of ((bound_proved ∷ []) ∷ [])) (all_outcomes outcome_of ((ranking_open ∷ []) ∷ [])) 0 a → ⊥
 not_by_bound a e h = let no : rank.Ranked ≡ rank.Unknown cause.Depth = ap (λ (l : LoopAnswer). l.rank) (first_of ranked (record { number = 1; rank = rank.Unknown cause.Depth }) [] [] (sym e ∙ h.loops)) in cc

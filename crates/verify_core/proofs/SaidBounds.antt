@@ -1,4 +1,4 @@
--- The goals that are made say what the goals of a bound ask.
+-- The goals without binders have the meaning of the goals of a bound.
 use Rattle.std.proofs.Common.{◌≡◌, ◌↔◌, ◌<◌, ℕ, Bool, refl, sym, subst, List, length}
 use Rattle.std.specs.Prelude.{Option, Some, None}
 use Rattle.heyvl_num.specs.Value.{oneᵛ}

@@ -1,4 +1,4 @@
--- The certificates of decided goals: their order, and the goals that they serve.
+-- The certificates of decided goals are in order, and each goal proved with a tree has one.
 use Rattle.std.proofs.Common.{◌≡◌, ℕ, ◌<◌, ◌≤◌, Bool, true, false, refl, ap, sym, subst, ◌∙◌, append_assoc, append-nil, arith, List, [], ◌∷◌, ◌++◌, length, map, slice_index_or, Option, None, Some, IsTrue, if◌then◌else◌}
 use Prim.Native.Nat.{zero, suc}
 use Rattle.std.specs.List.{AllZip, Contains}
@@ -37,12 +37,12 @@ use Rattle.verify_core.proofs.SideBySide.{zip_seconds}
 abbrev goal_name : ℕ → GoalId → GoalName
 goal_name k id = record { proc = k; id = id }
 
--- The procedure of the latest goal comes before this one.
+-- The latest goal is of a procedure before `k`.
 abbrev IsBelow : ℕ → Option GoalName → Type 0
 IsBelow k None = Unit {0}
 IsBelow k (Some m) = m.proc < k
 
--- The procedure's goals grow from the latest one on.
+-- The goals with these names may follow the latest one in this order.
 abbrev IsChain : ℕ → Option GoalName → List GoalId → Type 0
 IsChain k o [] = Unit {0}
 IsChain k o (id ∷ ids) = IsTrue (may_follow o (goal_name k id)) × IsChain k (Some (goal_name k id)) ids
@@ -59,7 +59,6 @@ skipped : (k : ℕ) (o : Option GoalName) (m : GoalName) (ids : List GoalId) →
 skipped k o m [] h c = tt
 skipped k o m (id ∷ ids) h c = (follows_onward o m (goal_name k id) h c.0, c.1)
 
--- One goal more: its certificate, if it has one, and what comes behind it.
 one_goal : (k : ℕ) (id : GoalId) (g : NamedGoal) (d : Decision) (cs : List GoalCert) (rest : List GoalCert) (o : Option GoalName) (ids : List GoalId) → g.proc ≡ k → g.id ≡ id → IsChain k o (id ∷ ids) → IsBelow (suc k) o → ((l : Option GoalName) → IsChain k l ids → IsBelow (suc k) l → IsGrowingAfter l (certificates_of (cs ++ rest))) → IsGrowingAfter o (certificates_of ((certificate (record { goal = g; found = d }) ++ cs) ++ rest))
 one_goal k id g (Proved (Some t)) cs rest o ids p i c b f = (subst (λ n. IsTrue (may_follow o n)) (sym named) c.0, subst (λ n. IsGrowingAfter (Some n) (certificates_of (cs ++ rest))) (sym named) (f (Some (goal_name k id)) c.1 (omega arith)))
   where
@@ -69,7 +68,6 @@ one_goal k id g (Proved None) cs rest o ids p i c b f = f o (skipped k o (goal_n
 one_goal k id g (Falsified s) cs rest o ids p i c b f = f o (skipped k o (goal_name k id) ids c.0 c.1) b
 one_goal k id g (Unknown u) cs rest o ids p i c b f = f o (skipped k o (goal_name k id) ids c.0 c.1) b
 
--- Goals of the procedure with these ids.
 abbrev AreNamed : ℕ → List GoalId → List DecidedGoal → Type 0
 AreNamed k ids ds = AllZip (λ id (d : DecidedGoal). (d.goal.proc ≡ k) × (d.goal.id ≡ id)) ids ds
 
@@ -85,14 +83,12 @@ rankings_named Finds ps k [] (d ∷ ds) h = absurd h
 rankings_named Finds ps k (n ∷ ns) [] h = absurd h
 rankings_named Finds ps k (n ∷ ns) (d ∷ ds) h = ((h.0.goal.proc, h.0.goal.id_of), rankings_named Finds ps k ns ds h.1)
 
--- Some goals, and those that come later.
 of_goals : (k : ℕ) (ids later : List GoalId) (ds : List DecidedGoal) (rest : List GoalCert) (o : Option GoalName) → AreNamed k ids ds → IsChain k o (ids ++ later) → IsBelow (suc k) o → ((l : Option GoalName) → IsChain k l later → IsBelow (suc k) l → IsGrowingAfter l (certificates_of rest)) → IsGrowingAfter o (certificates_of (certificates ds ++ rest))
 of_goals k [] later [] rest o h c b f = f o c b
 of_goals k [] later (d ∷ ds) rest o h c b f = absurd h
 of_goals k (id ∷ ids) later [] rest o h c b f = absurd h
 of_goals k (id ∷ ids) later (d ∷ ds) rest o h c b f = one_goal k id d.goal d.found (certificates ds) rest o (ids ++ later) h.0.0 h.0.1 c b (λ l x y. of_goals k ids later ds rest l h.1 x y f)
 
--- The goals of its bound, and those of its rankings.
 of_procedure : (k : ℕ) (ids later : List GoalId) (ds rs : List DecidedGoal) (rest : List GoalCert) (o : Option GoalName) → AreNamed k ids ds → AreNamed k later rs → IsChain k o (ids ++ later) → IsBelow (suc k) o → ((l : Option GoalName) → IsBelow (suc k) l → IsGrowingAfter l (certificates_of rest)) → IsGrowingAfter o (certificates_of ((certificates ds ++ certificates rs) ++ rest))
 of_procedure k ids later ds rs rest o h r c b f = subst (λ cs. IsGrowingAfter o (certificates_of cs)) (sym (append_assoc (certificates ds) (certificates rs) rest)) (of_goals k ids later ds (certificates rs ++ rest) o h c b (λ l x y. of_goals k later [] rs rest l r (subst (λ is. IsChain k l is) (sym (append-nil later)) x) y (λ m z w. f m w)))
 
@@ -127,9 +123,8 @@ chain ps k o q h b = of_body q.body refl
     of_body None e = subst (λ x. IsChain k o (map goal_id (bound_goals (record q { body = x })))) (sym e) tt
     of_body (Some acts) e = subst (λ x. IsChain k o (map goal_id (bound_goals (record q { body = x })))) (sym e) (of_weak acts q.weak (subst (λ x. loop_numbers (in_order (acts_in x)) ≡ counted 1 q.loops) e h.numbered))
 
--- ---- Rankings behind them
+-- ---- The rankings after them
 
--- Any ranking may come after this goal.
 abbrev IsBeforeRankings : ℕ → GoalId → Type 0
 IsBeforeRankings k id = (n : ℕ) → IsTrue (may_follow (Some (goal_name k id)) (goal_name k (Ranking n)))
 
@@ -173,7 +168,8 @@ first_counted x from xs n e = cc
 others_counted : (x from : ℕ) (xs : List ℕ) (n : ℕ) → x ∷ xs ≡ from ∷ counted (suc from) n → xs ≡ counted (suc from) n
 others_counted x from xs n e = cc
 
--- The rankings of acts whose loops are numbered from this number on, which may come after the latest goal.
+-- The goals of the rankings of acts, whose loops are numbered from `from` on, may follow the latest
+-- goal.
 rankings : (k : ℕ) (o : Option GoalName) (acts : List Act) (from n : ℕ) → loop_numbers acts ≡ counted from n → ((m : ℕ) → from ≤ m → IsTrue (may_follow o (goal_name k (Ranking m)))) → IsChain k o (map Ranking (ranked_in acts))
 rankings k o [] from n e f = tt
 rankings k o (Act.loop h b ∷ rest) from zero e f = absurd (cc)
@@ -201,7 +197,7 @@ whole_chain ps k o q h b = rankings_behind k o (map goal_id (bound_goals q)) (in
 
 -- ---- The file
 
--- Whatever may be found of the goals.
+-- For any property of goals and decisions.
 pub of_file : (Finds : NamedGoal → Decision → Type 0) (ps : List TypedProcedure) (k : ℕ) (qs : List TypedProcedure) (table ranks : List (List DecidedGoal)) (o : Option GoalName) → Each (MeetsRules ps) qs → AreBoundsFound Finds ps k qs table → AreRankingsFound Finds ps k qs ranks → IsBelow k o → IsGrowingAfter o (certificates_of (certified_in_file table ranks))
 of_file Finds ps k [] [] ranks o r h t b = tt
 of_file Finds ps k [] (ds ∷ table) ranks o r h t b = absurd h
@@ -209,7 +205,7 @@ of_file Finds ps k (q ∷ qs) [] ranks o r h t b = absurd h
 of_file Finds ps k (q ∷ qs) (ds ∷ table) [] o r h t b = absurd t
 of_file Finds ps k (q ∷ qs) (ds ∷ table) (rs ∷ ranks) o r h t b = of_procedure k (map goal_id (bound_goals q)) (map Ranking (ranked_loops q)) ds rs (certified_in_file table ranks) o (bounds_named Finds ps k (bound_goals q) ds h.0) (rankings_named Finds ps k (ranked_loops q) rs t.0) (whole_chain ps k o q r.0 b) (below_next k o b) (λ l x. of_file Finds ps (suc k) qs table ranks l r.1 h.1 t.1 x)
 
--- ---- The goals that they serve
+-- ---- The goals that have a certificate
 
 pub contains_left : (xs ys : List GoalCert) (c : GoalCert) → Contains xs c → Contains (xs ++ ys) c
 contains_left xs ys c h = (h.0, below xs h.0 h.1, at xs h.0 h.1 ∙ h.2)
@@ -256,7 +252,6 @@ all_served : TreesCertify → (certs : List GoalCert) (ds : List DecidedGoal) �
 all_served law certs [] h f = tt
 all_served law certs (d ∷ ds) h f = (one_served law certs d.goal d.found h.0 (λ c x. f c (contains_left (certificate d) (certificates ds) c x)), all_served law certs ds h.1 (λ c x. f c (contains_right (certificate d) (certificates ds) c x)))
 
--- The goals of bounds, and those of rankings.
 tables_served : TreesCertify → (ps : List TypedProcedure) (certs : List GoalCert) (k : ℕ) (qs : List TypedProcedure) (table ranks : List (List DecidedGoal)) → IsTable ps k qs table → IsRankTable ps k qs ranks → ((c : GoalCert) → Contains (certified_in_file table ranks) c → Contains certs c) → Each (Each (IsServed certs)) table × Each (Each (IsServed certs)) ranks
 tables_served law ps certs k [] [] [] h t f = (tt, tt)
 tables_served law ps certs k [] [] (rs ∷ ranks) h t f = absurd t

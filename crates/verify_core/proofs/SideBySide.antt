@@ -1,4 +1,4 @@
--- Lists side by side: what holds of each pair, one pair more, and the pair at a place.
+-- Pairs of lists of one length: what holds for each pair, one pair more, and the pair at a place.
 use Rattle.std.proofs.Common.{◌≡◌, ◌<◌, ◌+◌, ℕ, refl, ap, subst, arith, List, [], ◌∷◌, ◌++◌, length, map}
 use Rattle.std.specs.List.{AllZip}
 use Prim.Native.Nat.{zero, suc}
@@ -21,7 +21,7 @@ zip_seconds R P [] (y ∷ ys) f h = absurd h
 zip_seconds R P (x ∷ xs) [] f h = absurd h
 zip_seconds R P (x ∷ xs) (y ∷ ys) f h = (f x y h.0, zip_seconds R P xs ys f h.1)
 
--- ---- With numbers
+-- ---- With numbers of the pairs
 
 pub numbered_map : {A B C : Type 0} (R : ℕ → A → B → Type 0) (S : ℕ → A → C → Type 0) (f : B → C) (k : ℕ) (xs : List A) (ys : List B) → ((n : ℕ) (x : A) (y : B) → R n x y → S n x (f y)) → AllNumbered R k xs ys → AllNumbered S k xs (map f ys)
 numbered_map R S f k [] [] g h = tt
@@ -60,7 +60,6 @@ next_number k n = omega arith
 pub from_none : (n : ℕ) → 0 + n ≡ n
 from_none n = omega arith
 
--- The item behind these, with as many items before it on the other side.
 pub record IsPlaced {B : Type 0} (P : ℕ → B → Type 0) (count place n : ℕ) (y : B) : Type 0 where
   pub is : P n y
   pub there : place < count
@@ -88,6 +87,5 @@ row_from R k (q ∷ qs) [] n l h = absurd h
 row_from R k (q ∷ qs) (r ∷ rs) zero l h = subst (λ i. R i q r) (first_number k) h.0
 row_from R k (q ∷ qs) (r ∷ rs) (suc n) l h = subst (λ i. R i (procedure_at qs n) (row_at rs n)) (next_number k n) (row_from R (suc k) qs rs n (omega arith) h.1)
 
--- The row of a procedure.
 pub row_of : {B : Type 0} (R : ℕ → TypedProcedure → List B → Type 0) (ps : List TypedProcedure) (table : List (List B)) (p : ℕ) → p < length ps → AllNumbered R 0 ps table → R p (procedure_at ps p) (row_at table p)
 row_of R ps table p l h = subst (λ i. R i (procedure_at ps p) (row_at table p)) (from_none p) (row_from R 0 ps table p l h)

@@ -1,4 +1,4 @@
--- What comes of one goal of a bound, whatever comes of the procedure's other goals.
+-- The outcome of one goal of a bound has its meaning alone.
 use Rattle.std.proofs.Common.{List, [], length, subst, take, ◌<◌, ◌∷◌, ℕ}
 use Rattle.std.specs.Borrow.{Bor}
 use Rattle.std.specs.List.{AllZip}

@@ -1,4 +1,4 @@
--- Where the encoding of a procedure stands: within the text, where the procedures do.
+-- The places of the encoding of a procedure are within the text, if those of the procedures are.
 use Rattle.std.proofs.Common.{◌≡◌, ◌≤◌, ◌+◌, ◌==◌, ℕ, Bool, true, false, List, [], ◌∷◌, ◌++◌, length}
 use Rattle.std.specs.Prelude.{Option, Some, if◌then◌else◌}
 use Prim.Native.Nat.{zero, suc}
@@ -66,7 +66,7 @@ havocs_stand : (n : ℕ) (up : Bool) (span : Span) (types : Types) (xs : List �
 havocs_stand n up span types [] rest l k = k
 havocs_stand n up span types (x ∷ xs) rest l k = (l, havocs_stand n up span types xs rest l k)
 
--- The test behind which nothing is.
+-- The test of a loop, followed by nothing.
 abbrev tested_acts : Span → Cond → Acts → Acts
 tested_acts span g acts = Acts.next (if_holds span g acts) Acts.done
 
@@ -156,7 +156,7 @@ question_stands n ps p BoundGoal.pre s = record { stated = tt; found = (stands_a
 question_stands n ps p BoundGoal.post s = record { stated = tt; found = (stands_at n ps p s).post }
 question_stands n ps p (BoundGoal.invariant k) s = record { stated = tt; found = invariant_stands n k (in_order (acts_in (procedure_at ps p).body)) (stands_at n ps p s).acts }
 
--- The first product of a goal that isn't linear stands within the text.
+-- The first nonlinear product of a goal is within the text.
 pub goal_stands : (n : ℕ) (ps : List TypedProcedure) (p : ℕ) (asked : BoundGoal) (s : Span) → Each (StandsWithin n) ps → nonlinear_product (goal (question ps (procedure_at ps p) asked)) ≡ Some s → s.from ≤ n
 goal_stands n ps p asked s h e =
     let q = question ps (procedure_at ps p) asked in

@@ -1,4 +1,4 @@
--- Where the products of formulas stand: what is made of formulas and acts has their products at their places, and no other.
+-- Forms made of formulas and acts have the places of their products, and no other places.
 use Rattle.std.proofs.Common.{ap, arith, ◌≡◌, ◌≤◌, ◌+◌, ◌==◌, ◌&&◌, ℕ, Bool, true, false, List, [], ◌∷◌, length}
 use Rattle.std.specs.Prelude.{Option, Some, None, if◌then◌else◌}
 use Rattle.std.specs.Option.{option_or}
@@ -30,7 +30,7 @@ if_stands_in : (n : ℕ) (b : Bool) (f g : Cond) → CondStands n f → CondStan
 if_stands_in n true f g h k = h
 if_stands_in n false f g h k = k
 
--- ---- Numbered anew
+-- ---- With other numbers of variables
 
 mutual
   pub shifted_stands : (n : ℕ) (m : ℕ) (f : Form) → FormStands n f → FormStands n (shifted m f)
@@ -64,7 +64,7 @@ mutual
   shifted_stands_in n m (Cond.equal a b) h = (shifted_stands n m a h.0, shifted_stands n m b h.1)
   shifted_stands_in n m (Cond.ite g k l) h = (shifted_stands_in n m g h.0, (shifted_stands_in n m k h.1.0, shifted_stands_in n m l h.1.1))
 
--- ---- Renamed
+-- ---- With other binders
 
 mutual
   pub renamed_stands : (n : ℕ) (y z : ℕ) (f : Form) → FormStands n f → FormStands n (renamed y z f)
@@ -132,7 +132,7 @@ mutual
   unbound_stands_in n m k (Cond.equal a b) h = (unbound_stands n m k a h.0, unbound_stands n m (k + length (binders a)) b h.1)
   unbound_stands_in n m k (Cond.ite g e l) h = (unbound_stands_in n m k g h.0, (unbound_stands_in n m (k + length (binders_in g)) e h.1.0, unbound_stands_in n m (k + length (binders_in g) + length (binders_in e)) l h.1.1))
 
--- ---- With a term in place of a variable
+-- ---- With a term for a variable
 
 mutual
   pub within_stands : (n : ℕ) (c x : ℕ) (t : Term) (f : Form) → FormStands n (as_form t) → CondStands n (as_cond t) → FormStands n f → FormStands n (subst_within c x t f)
@@ -190,7 +190,7 @@ draw_stands : (n x : ℕ) (ps : List (Rational × Term)) (k : Form) → Each (λ
 draw_stands n x [] k h i = tt
 draw_stands n x (p ∷ ps) k h i = sum_stands n x ps k (part_form x p k) h.1 i (put_stands n x p.1 k h.0 i)
 
--- both products of a toss have its place
+-- Both products of a flip have its place.
 toss_stands : (n x : ℕ) (f : Form) (span : Span) (k : Form) → span.from ≤ n → FormStands n f → FormStands n k → FormStands n (toss_form x f span k)
 toss_stands n x f span k l h i = ((l, ((h, tt), put_stands n x (Term.truth (Cond.constant true)) k tt i)), (l, ((tt, (h, tt)), put_stands n x (Term.truth (Cond.constant false)) k tt i)))
 
@@ -230,7 +230,7 @@ mutual
   vp_stands_arms n Arms.no_arm k otherwise h j i l = l
   vp_stands_arms n (Arms.arm g b more) k otherwise h j i l = (h.0, (vp_stands n b k (each_first (ActStands n) (in_order b) (inside_arms more) j) i, vp_stands_arms n more k otherwise h.1 (each_second (ActStands n) (in_order b) (inside_arms more) j) i l))
 
--- ---- The first product
+-- ---- The first nonlinear product
 
 pub or_stands : (n : ℕ) (a b : Option Span) (s : Span) → (a ≡ Some s → s.from ≤ n) → (b ≡ Some s → s.from ≤ n) → option_or a b ≡ Some s → s.from ≤ n
 or_stands n None b s f g e = g e

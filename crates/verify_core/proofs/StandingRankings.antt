@@ -1,4 +1,4 @@
--- Where the goal of a ranking stands: within the text, where the procedures do.
+-- The places of the goal of a ranking are within the text, if those of the procedures are.
 use Rattle.std.proofs.Common.{◌≡◌, ◌≤◌, ℕ, subst, List, ◌++◌, length}
 use Rattle.std.specs.Prelude.{Option, Some}
 use Rattle.heyvl_num.specs.Rational.{Rational}
@@ -18,7 +18,7 @@ use Rattle.ranking_rule.proofs.exported.RankedActs.{of_body, of_head}
 use Rattle.verify_core.proofs.StandingActs.{Stand, stands_at}
 use Rattle.verify_core.proofs.StandingForms.{or_stands, product_stands, unbound_stands, vp_stands}
 
--- ---- Acts taken upward
+-- ---- The acts of a ranking
 
 guards_stand : (n : ℕ) (arms : Arms) → GuardsStand n arms → GuardsStand n (upward_arms arms)
 guards_stand n Arms.no_arm h = tt
@@ -55,7 +55,6 @@ mutual
 rank_stands : (n : ℕ) (o : Option (Rational × Form)) (r : Rational × Form) → o ≡ Some r → RankStands n o → FormStands n r.1
 rank_stands n o r e h = subst (RankStands n) e h
 
--- The first product of a ranking's goal that isn't linear stands within the text.
 pub ranking_stands : (n : ℕ) (ps : List TypedProcedure) (p k : ℕ) (l : RankedLoop (procedure_at ps p) k) (s : Span) → Each (StandsWithin n) ps → nonlinear_product (goal (procedure_at ps p) l.head l.body l.rank) ≡ Some s → s.from ≤ n
 ranking_stands n ps p k l s h e =
     let q = procedure_at ps p in

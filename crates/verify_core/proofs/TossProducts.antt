@@ -1,4 +1,4 @@
--- A toss's own products are never the first product that isn't linear.
+-- The products that a flip adds are never the first nonlinear product.
 use Rattle.std.proofs.Common.{◌≡◌, ℕ, refl, Bool, true, false, ◌&&◌, ◌||◌}
 use Rattle.std.specs.Option.{option_or}
 use Rattle.std.specs.Prelude.{Option, Some, None, pos}
@@ -12,7 +12,8 @@ use Rattle.linear_form.specs.Nonlinear.{first_product, product_at}
 use Rattle.vp_generator.specs.GeneratedForms.{toss_form}
 use Rattle.verify_core.specs.TossProducts.{TossProductsAreLinear}
 
--- The parts of the form of a toss: whether its formula holds a variable, and what is first in the formula and in the two sides.
+-- The parts of the form of a flip: whether its weight has a variable, and the first products of the
+-- weight and of both sides.
 none_of_its_own : (varies : Bool) → varies ≡ false → (f a b : Option Span) (s t : Bool) (span : Span) → option_or (option_or (option_or f None) (option_or (product_at ((varies || false) && s) span) a)) (option_or (option_or None (option_or f None)) (option_or (product_at ((false || (varies || false)) && t) span) b)) ≡ option_or f (option_or a b)
 none_of_its_own true e f a b s t span = absurd (cc)
 none_of_its_own false e None None b s t span = refl
@@ -25,7 +26,7 @@ toss_products_are_linear types x f span k h =
     let tails = Replaced.subst x (Term.truth (Cond.constant false)) k in
     none_of_its_own (has_variable f) h.1.1 (first_product f) (first_product heads) (first_product tails) (has_variable heads) (has_variable tails) span
 
--- ---- A toss at 7 before the square of the number 1, whose formula compares the square at 3 with 2
+-- ---- A flip at 7 before the square of the variable 1; its weight compares the square at 3 with 2
 
 abbrev at_place : ℕ → Span
 at_place n = record { from = n; to = n }

@@ -1,4 +1,4 @@
--- What decisions don't prove has no certificate among theirs, and is missed by them.
+-- A goal that decisions do not prove has no certificate among theirs, so that its check fails.
 use Rattle.std.proofs.Common.{◌≡◌, ◌∙◌, ◌<◌, ◌⊎◌, ℕ, refl, sym, ap, ap₂, subst, arith, append_assoc, true, List, [], ◌∷◌, ◌++◌, map, slice_index_or, Option, None, Some, inl, inr, ⊎_elim}
 use Rattle.std.specs.List.{AllZip, Contains}
 use Prim.Native.Nat.{zero, suc}
@@ -45,7 +45,7 @@ in_one_list (ds ∷ table) (rs ∷ ranks) = ap₂ (λ a b. a ++ b) (sym (certifi
 
 -- ---- With a certificate for each goal
 
--- The goal with a tree.
+-- The goal as if it were proved with a tree.
 abbrev filled : DecidedGoal → DecidedGoal
 filled d = record { goal = d.goal; found = Proved (Some T.TheVariants.Plain) }
 
@@ -67,7 +67,6 @@ filled_row Is [] (d ∷ ds) h = absurd h
 filled_row Is (i ∷ is) [] h = absurd h
 filled_row Is (i ∷ is) (d ∷ ds) h = (record { goal = h.0.goal; found = tt }, filled_row Is is ds h.1)
 
--- All names grow.
 abbrev Grows : Option GoalName → List DecidedGoal → Type 0
 Grows o ds = IsGrowingAfter o (certificates_of (certificates (map filled ds)))
 
@@ -78,7 +77,7 @@ names_grow ps table ranks rules h t =
     let order = of_file Any ps 0 ps (map (map filled) table) (map (map filled) ranks) None rules bounds rankings tt in
     subst (λ cs. IsGrowingAfter None (certificates_of cs)) (in_one_list (map (map filled) table) (map (map filled) ranks) ∙ ap certificates (filled_in table ranks)) order
 
--- ---- Names that come later
+-- ---- The names of later goals
 
 abbrev name : DecidedGoal → GoalName
 name d = record { proc = d.goal.proc; id = d.goal.id }
@@ -94,7 +93,7 @@ after : (n : GoalName) (ds : List DecidedGoal) → Grows (Some n) ds → AreAfte
 after n [] h = tt
 after n (d ∷ ds) h = (h.0, onward n (name d) ds h.0 (after (name d) ds h.1))
 
--- ---- The certificates among goals
+-- ---- The certificates of a list of goals
 
 nothing_listed : (c : GoalCert) → Contains [] c → ⊥
 nothing_listed c h = let l = h.1 in omega (arith, l)
@@ -127,7 +126,6 @@ cert_after : (n : GoalName) (ds : List DecidedGoal) (c : GoalCert) → AreAfter 
 cert_after n [] c a h = absurd (nothing_listed c h)
 cert_after n (d ∷ ds) c a h = ⊎_elim (λ i. subst (λ m. precedes n m ≡ true) (sym (cert_named d.goal d.found c i)) a.0) (λ i. cert_after n ds c a.1 i) (either (certificate d) (certificates ds) c h)
 
--- The list has no certificate of the goal's name, where the goal isn't proved.
 abbrev Lacks : List GoalCert → DecidedGoal → Type 0
 Lacks certs d = IsUnproved d.found → (c : GoalCert) → Contains certs c → name_of c ≡ name d → ⊥
 
@@ -157,7 +155,7 @@ tables_lack certs ps k (q ∷ qs) (ds ∷ table) (rs ∷ ranks) h t l =
     let others = tables_lack certs ps (suc k) qs table ranks h.1 t.1 (each_second (Lacks certs) (ds ++ rs) (goals_in table ranks) l) in
     ((each_first (Lacks certs) ds rs own, others.0), (each_second (Lacks certs) ds rs own, others.1))
 
--- ---- They are missed
+-- ---- The check of goals that are not proved
 
 row_missed : {I : Type 0} (Is : I → NamedGoal → Type 0) → ((i : I) (g h : NamedGoal) → Is i g → Is i h → AreOneGoal g h) → (certs : List GoalCert) (is : List I) (ds : List DecidedGoal) (cs : List CheckedGoal) → AllZip (λ i (d : DecidedGoal). HasFound (Is i) Decides d) is ds → AllZip (λ i (c : CheckedGoal). HasFound (Is i) (IsMissOf certs) c) is cs → Each (Lacks certs) ds → AllZip IsMissed ds cs
 row_missed Is same certs [] [] [] x y l = tt

@@ -1,4 +1,5 @@
--- The answers of a file by one way are those by decisions, or those by certificates.
+-- The answers on a file by one way to settle goals are those by decisions, or those by
+-- certificates.
 use Rattle.std.proofs.Common.{◌≡◌, ℕ, refl, ap, ◌∙◌, List, [], ◌∷◌, ◌++◌, Some, None, Option}
 use Rattle.std.specs.Borrow.{Bor}
 use Prim.Native.Nat.{suc}
@@ -80,6 +81,5 @@ none_told (cs ∷ table) (rs ∷ ranks) =
     let rest = told_in_file (all_outcomes outcome_of table) (all_outcomes outcome_of ranks) in
     ap (λ l. (l ++ all_shown (outcomes outcome_of rs)) ++ rest) (told_by (outcomes outcome_of cs) (told (outcomes outcome_of cs)) (each_unshown cs) refl) ∙ (ap (λ l. l ++ rest) (none_shown (outcomes outcome_of rs) (each_unshown rs)) ∙ none_told table ranks)
 
--- No goal is told.
 pub none_made : (ps : List TypedProcedure) (answers : List Answer) (given : Bor (List GoalCert)) (made : List NamedGoal) (certs : List GoalCert) → IsWhole (Check given) ps answers made certs → made ≡ []
 none_made ps answers given made certs w = w.made_of ∙ none_told w.table w.ranks

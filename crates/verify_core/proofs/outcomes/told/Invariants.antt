@@ -4,7 +4,8 @@ use Rattle.std.specs.Vec.Iter.{into_iter_items}
 use Rattle.verify_core.specs.Outcomes.{first_with, is_falsified, is_open}
 use Rattle.verify_core.proofs.outcomes.told.Given as goal
 
--- The first ones so far, or else those of the goals that are left, are those of all.
+-- The first goals so far, or else the first ones among the goals that are left, are those of all
+-- goals.
 abbrev pub invariant-loop-one : goal.invariant-loop-one
 invariant-loop-one l = record {
   falsified : option_or l.falsified (first_with is_falsified (into_iter_items l.one-iterator)) ≡ first_with is_falsified l.fn.row.items;

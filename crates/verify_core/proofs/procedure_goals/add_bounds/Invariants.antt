@@ -5,7 +5,6 @@ use Rattle.heyvl_acts.specs.Rules.{Each}
 use Rattle.verify_core.specs.internal.BoundQuestions.{AreMadeFor, IsAsked, NamedQuestion, asked_question, plain}
 use Rattle.verify_core.proofs.procedure_goals.add_bounds.Given as goal
 
--- The goals so far: those that were there, and one for each formula; and what is asked of the rest.
 abbrev pub invariant-loop-one : goal.invariant-loop-one
 invariant-loop-one l = record {
   goals : (questions : List NamedQuestion) → AreMadeFor l.p questions l.initial.more.items → AreMadeFor l.p (questions ++ map (asked_question (procedure_at (procedures_of l.typed) l.p)) (map plain l.yielded)) l.more.items;

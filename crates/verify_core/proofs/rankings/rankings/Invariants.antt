@@ -8,7 +8,6 @@ use Rattle.goal_answers.specs.declared.named_goals.NamedGoal.{NamedGoal}
 use Rattle.verify_core.specs.Rankings.{AreRankingGoals, ranked_loops}
 use Rattle.verify_core.proofs.rankings.rankings.Given as goal
 
--- The goals so far and those of the numbers that are left are all; each number that is left names a loop.
 abbrev pub invariant-loop-number : goal.invariant-loop-number
 invariant-loop-number l = record {
   goals : (more : List NamedGoal) → AreRankingGoals (procedures_of l.typed) l.p (into_iter_items l.number-iterator) more → AreRankingGoals (procedures_of l.typed) l.p (ranked_loops (procedure_at (procedures_of l.typed) l.p)) (l.all.items ++ more);

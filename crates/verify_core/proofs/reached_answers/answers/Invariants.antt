@@ -6,7 +6,6 @@ use Rattle.verify_core.specs.declared.outcomes.GoalOutcome.{GoalOutcome}
 use Rattle.verify_core.specs.internal.Own.{EachNumbered, IsOwnBy}
 use Rattle.verify_core.proofs.reached_answers.answers.Given as goal
 
--- Those so far are answered, and the others are the answers by themselves.
 abbrev pub invariant-loop-one : goal.invariant-loop-one
 invariant-loop-one l = record {
   done : l.p ≡ length l.all.items;
