@@ -1,4 +1,4 @@
--- Tables whose outcomes are alike give verdicts that are alike.
+-- Tables whose outcomes agree determine verdicts that agree.
 use Rattle.std.proofs.Common.{◌≡◌, ◌⊎◌, ◌<◌, ℕ, refl, sym, ap, ap₂, ◌∙◌, subst, Bool, true, false, List, [], ◌∷◌, inl, inr}
 use Rattle.std.proofs.lemmas.Bool.{cases_order, false≢true}
 use Rattle.std.specs.List.{AllZip}
@@ -25,7 +25,7 @@ use Rattle.verify_core.specs.Verdicts.{IsClosed, IsFirstOpen, IsVerdict}
 use Rattle.answer_laws.specs.Named.{GoalOutcome, Outcome}
 use Rattle.answer_laws.proofs.Told.{IsLawfulOne, same_some, told_unproved}
 
--- What outcomes that are alike have in common, and the verdicts that are alike by them.
+-- Outcomes that agree by `R` have the same tests, and yield verdicts that agree by `V`.
 pub record Agree (R : Outcome → Outcome → Type 0) (V : Verdict → Verdict → Type 0) : Type 0 where
   pub proved_test : (o u : Outcome) → R o u → is_proved o ≡ is_proved u
   pub falsified_test : (o u : Outcome) → R o u → is_falsified o ≡ is_falsified u
@@ -40,16 +40,17 @@ pub record Agree (R : Outcome → Outcome → Type 0) (V : Verdict → Verdict �
   pub conditional : (q : ℕ) → V (verdict.Conditional q) (verdict.Conditional q)
   pub verified : V verdict.Verified verdict.Verified
 
--- A goal with one name, and outcomes that are alike.
+-- Two goals with the same name, whose outcomes agree.
 abbrev pub AlikeGoals : (R : Outcome → Outcome → Type 0) → GoalOutcome → GoalOutcome → Type 0
 AlikeGoals R o u = (o.goal.id ≡ u.goal.id) × R o.outcome u.outcome
 
--- A table without goals of procedures that have no body, and with outcomes that are falsified or open only where they aren't proved.
+-- In the table, procedures without a body have no goals, and an outcome that is falsified or open
+-- is not proved.
 pub record IsOrdinary (ps : List TypedProcedure) (T : List (List GoalOutcome)) : Type 0 where
   pub bare : (p : ℕ) → (procedure_at ps p).body ≡ None → row_at T p ≡ []
   pub lawful : (p : ℕ) → Each IsLawfulOne (row_at T p)
 
--- ---- The goal that is told
+-- ---- The reported goal
 
 abbrev SameFound : (R : Outcome → Outcome → Type 0) → Option GoalOutcome → Option GoalOutcome → Type 0
 SameFound R None None = Unit {0}
@@ -81,13 +82,11 @@ proved_alike R same [] (u ∷ us) h = absurd h
 proved_alike R same (o ∷ os) [] h = absurd h
 proved_alike R same (o ∷ os) (u ∷ us) h = ap₂ (λ x y. x && y) (same o.outcome u.outcome h.0.1) (proved_alike R same os us h.1)
 
--- A procedure without body has no goal.
 told_bare : (ps : List TypedProcedure) (T : List (List GoalOutcome)) → IsOrdinary ps T → (p : ℕ) (i : GoalId) (o : Outcome) → IsTold (row_at T p) i o → (procedure_at ps p).body ≡ None → ⊥
 told_bare ps T t p i o h e = let k : told [] ≡ Some (record { goal = h.goal; outcome = o }) = subst (λ os. told os ≡ Some (record { goal = h.goal; outcome = o })) (t.bare p e) h.told_of in cc
 
 -- ---- Reasons
 
--- A procedure without body is no program.
 bare_no_program : (p : TypedProcedure) → p.body ≡ None → IsProgram p → ⊥
 bare_no_program p e h = subst (λ (o : Option Acts). why_no_program (record p { body = o }) ≡ None → ⊥) (sym e) (λ k. cc) h
 

@@ -1,4 +1,4 @@
--- Certificates in the order of a text: a goal has one tree at most.
+-- In a list of certificates in the order of their text, a goal has one tree at most.
 use Rattle.std.proofs.Common.{◌≡◌, ℕ, Bool, true, ◌||◌, ◌&&◌, ◌==◌, ◌<◌, refl, ap, subst, sym, ◌∙◌, arith, List, [], ◌∷◌, length, slice_index_or, nat_lt, Option, Some, None, ◌⊎◌, inl, inr}
 use Prim.Native.Nat.{zero, suc}
 use Rattle.std.proofs.lemmas.Bool.{cases_order}
@@ -17,7 +17,7 @@ goal_name k id = record { proc = k; id = id }
 abbrev name_of : GoalCert → GoalName
 name_of c = goal_name c.proc c.id
 
--- Three numbers before three others, the earlier ones first.
+-- Whether three numbers precede three others in lexicographic order.
 abbrev first_of_three : ℕ → ℕ → ℕ → ℕ → ℕ → ℕ → Bool
 first_of_three a b c x y z = nat_lt a x || (a == x && (nat_lt b y || (b == y && nat_lt c z)))
 
@@ -49,7 +49,6 @@ any_default [] k d e l = absurd (omega (arith, l))
 any_default (c ∷ cs) zero d e l = refl
 any_default (c ∷ cs) (suc k) d e l = any_default cs k d e (omega (arith, l))
 
--- The list has one tree at most for a goal.
 pub one_tree : (cs : List GoalCert) (proc : ℕ) (id : GoalId) (t u : Tree) → IsGrowingAfter None (certificates_of cs) → HasTree cs proc id t → HasTree cs proc id u → t ≡ u
 one_tree cs proc id t u g a b = from (cases_order a.listed.0 b.listed.0)
   where

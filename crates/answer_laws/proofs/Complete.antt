@@ -1,4 +1,4 @@
--- Where no cause is at a goal, its answers are complete.
+-- If no cause applies to a goal, its answers are complete.
 use Rattle.std.proofs.Common.{◌≡◌, ◌↔◌, ◌<◌, ℕ, refl, sym, ap, ◌∙◌, subst, arith, true, List, [], ◌∷◌, ◌++◌, length, map, slice_index_or, take}
 use Rattle.std.proofs.lemmas.Bool.{false≢true}
 use Rattle.std.specs.List.{AllZip, Contains}
@@ -55,7 +55,6 @@ decisions_complete tell g (Proved t) typed over none d = (λ e. tell g (Proved t
 decisions_complete tell g (Falsified s) typed over none d = (λ e. absurd (false≢true e), λ h. let f = tell g (Falsified s) typed over d in absurd (f.fails (h s.items f.typed)))
 decisions_complete tell g (Unknown c) typed over none d = (λ e. absurd (false≢true e), λ h. absurd (none c d))
 
--- A decision of a goal within reach is known.
 known : (m : Made) (d : Decision) (c : Cause) → IsDecisionOf m d → IsWithinReach m → outcome_of d ≡ outcome_of (Unknown c) → ⊥
 known (made.Goal g) (Proved t) c h r e = cc
 known (made.Goal g) (Falsified s) c h r e = cc
@@ -63,7 +62,6 @@ known (made.Goal g) (Unknown b) c h r e = r b h
 known made.Depth d c h r e = r
 known made.Nodes d c h r e = r
 
--- Nothing is missed by a decision.
 pub unmissed : (d : Decision) (m : Miss) → outcome_of d ≡ certified.outcome_of (Some m) → ⊥
 unmissed (Proved t) m e = cc
 unmissed (Falsified s) m e = cc
@@ -81,7 +79,7 @@ rank_unmissed (Proved t) m e = cc
 rank_unmissed (Falsified s) m e = cc
 rank_unmissed (Unknown c) m e = cc
 
--- ---- Each goal of a bound by itself
+-- ---- Each goal of a bound alone
 
 complete_one : (ps : List TypedProcedure) (p : ℕ) (asked : BoundGoal) (g : NamedGoal) (d : Decision) → IsGoalOf ps p asked g → IsDecisionOf g.made d → IsMeantAlone ps p asked (record { goal = g; outcome = outcome_of d }) → IsCompleteAlone ps p asked (record { goal = g; outcome = outcome_of d })
 complete_one ps p asked g (Proved t) is k m r = (m.proved, λ h. refl)
@@ -104,7 +102,7 @@ goals_complete law ps answers told certs rules are p there =
 
 -- ---- The goals of a bound
 
--- The goal is one of the bound that holds, and what comes of it is known.
+-- The goal is one of the bound, which holds, and its outcome is known.
 record IsKnown (ps : List TypedProcedure) (p : ℕ) (o : GoalOutcome) : Type 0 where
   asked : BoundGoal
   named : o.goal.id ≡ goal_id asked
@@ -134,11 +132,9 @@ module _ (ps : List TypedProcedure) (answers : List Answer) (all : List NamedGoa
   known_at : p < length ps → IsBoundWithinReach ps p → BoundGoalsHold ps (procedure_at ps p) → Each (IsKnown ps p) (row_at (all_outcomes outcome_of are.table) p)
   known_at there r h = subst (Each (IsKnown ps p)) (sym (row_outcomes outcome_of are.table p)) (known_row ps p (bound_goals (procedure_at ps p)) (row_at are.table p) (row_of (λ k q gs. AreFound (IsGoalOf ps k) Decides (bound_goals q) gs) ps are.table p there are.decided) r h)
 
-  -- The goal that the verdict tells is known, where all of them are.
   told_known : (id : GoalId) (o : Outcome) → Each (IsKnown ps p) (row_at (all_outcomes outcome_of are.table) p) → (t : IsTold (row_at (all_outcomes outcome_of are.table) p) id o) → IsKnown ps p (record { goal = t.goal; outcome = o })
   told_known id o h t = (told_is (IsKnown ps p) (row_at (all_outcomes outcome_of are.table) p) (record { goal = t.goal; outcome = o }) h t.told_of).0
 
-  -- The goal whose state is shown fails, and holds.
   shown_or_holds : (id : GoalId) (s : Vec Val Global) (g : BoundGoal) → IsVerdictOn answers p (verdict.NotVerified id s) → goal_id g ≡ id → GoalHolds ps (procedure_at ps p) g → ⊥
   shown_or_holds id s g on e h =
       let k = says.shown p id s on in
@@ -167,7 +163,6 @@ verdicts_complete ps answers all certs are says p v b r on = verdict_complete ps
 same_some : {A : Type 0} (a b : A) → Some a ≡ Some b → a ≡ b
 same_some a b e = cc
 
--- A number names one loop.
 same_loop : (p : TypedProcedure) (n : ℕ) (k l : RankedLoop p n) (P : Head → Acts → Rational × Form → Type 0) → P k.head k.body k.rank → P l.head l.body l.rank
 same_loop p n k l P h =
     let both : ◌≡◌ {A = Head × Acts} (k.head, k.body) (l.head, l.body) = same_some (k.head, k.body) (l.head, l.body) (sym k.named ∙ l.named) in

@@ -1,4 +1,4 @@
--- What the certificates of a file show again of what was proved of it.
+-- Checking the certificates of a file yields again what was proved of it.
 use Rattle.std.proofs.Common.{List, [], ap, ap₂, arith, length, map, refl, slice_index_or, subst, sym, true, false, ◌&&◌, ◌+◌, ◌++◌, ◌<◌, ◌∙◌, ◌∷◌, ◌≡◌, ℕ}
 use Rattle.std.proofs.lemmas.Bool.{false≢true}
 use Rattle.std.specs.List.{AllZip, Contains}
@@ -32,7 +32,6 @@ use Rattle.answer_laws.proofs.Rows.{placed, row_of, row_outcomes}
 
 -- ---- One goal
 
--- It is proved by its decision exactly where nothing is missed of it.
 proved_alike : (d : Decision) (c : Option Miss) → ((t : Tree) → d ≡ Proved (Some t) → c ≡ None) → (((t : Tree) → d ≡ Proved (Some t) → ⊥) → c ≡ None → ⊥) → (d ≡ Proved None → ⊥) → is_proved (decided.outcome_of d) ≡ is_proved (certified.outcome_of c)
 proved_alike (Proved (Some t)) c n m h = sym (ap (λ x. is_proved (certified.outcome_of x)) (n t refl))
 proved_alike (Proved None) c n m h = absurd (h refl)
@@ -54,7 +53,7 @@ rows_alike (d ∷ ds) [] n m h q = absurd n
 rows_alike (d ∷ ds) (c ∷ cs) n m h zero = row_alike d c n.0 m.0 h.0
 rows_alike (d ∷ ds) (c ∷ cs) n m h (suc q) = rows_alike ds cs n.1 m.1 h.1 q
 
--- ---- The answer at a place
+-- ---- The answer with a number
 
 record IsAt (P : ℕ → Answer → Type 0) (answers : List Answer) (k p : ℕ) : Type 0 where
   pub before : List Answer
@@ -117,7 +116,7 @@ verdicts_kept accepted others one ps answers checked made certs rules are file t
 
 -- ---- Rankings
 
--- Two goals of one ranking, of which both are proved, or neither.
+-- Two goals of the same ranking: both are proved, or neither is.
 abbrev AreAlike : decided.DecidedGoal → certified.CheckedGoal → Type 0
 AreAlike d c = (loop_of d.goal.id ≡ loop_of c.goal.id) × (is_proved (decided.outcome_of d.found) ≡ is_proved (certified.outcome_of c.found))
 
@@ -139,7 +138,7 @@ ranked_checked : (c : Option Miss) → is_proved (certified.outcome_of c) ≡ tr
 ranked_checked None e = refl
 ranked_checked (Some m) e = absurd (false≢true e)
 
--- A line of the loop n that says that it is ranked.
+-- A line that reports the loop `n` as ranked.
 record HasRanked (lines : List LoopAnswer) (n : ℕ) : Type 0 where
   pub line : LoopAnswer
   pub listed : Contains lines line

@@ -1,4 +1,4 @@
--- Decisions of the same goals give verdicts that say the same.
+-- Decisions of the same goals determine verdicts that agree.
 use Rattle.std.proofs.Common.{◌≡◌, ℕ, refl, sym, ap, ◌∙◌, subst, arith, List, [], ◌∷◌}
 use Rattle.std.specs.Prelude.{Vec}
 use Rattle.std.specs.declared.alloc.Global.{Global}
@@ -28,7 +28,7 @@ use Rattle.answer_laws.proofs.AlikeVerdicts.{Agree}
 use Rattle.answer_laws.proofs.Complete.{unmissed}
 use Rattle.answer_laws.proofs.SingleTables.{Comes, decided_lawful, two_tables}
 
--- Two decisions say the same, but for trees.
+-- Two decisions agree, apart from their trees.
 abbrev SaySame : Decision → Decision → Type 0
 SaySame (Proved t) (Proved u) = Unit {0}
 SaySame (Falsified s) (Falsified r) = s.items ≡ r.items
@@ -57,7 +57,7 @@ same_decision (Unknown c) (Proved u) h = h
 same_decision (Unknown c) (Falsified r) h = h
 same_decision (Unknown c) (Unknown d) h = same_cause c d h
 
--- The decision is of a goal, and is within limits.
+-- `d` is a decision of the goal, and no limit of rows or of bits is exceeded.
 abbrev DecidesWithin : NamedGoal → Decision → Type 0
 DecidesWithin g d = Decides g d × (IsOfLimits d → ⊥)
 

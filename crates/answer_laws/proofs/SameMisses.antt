@@ -1,4 +1,4 @@
--- Certificates in the order of a text give verdicts that say the same.
+-- Certificates in the order of their text determine verdicts that agree.
 use Rattle.std.proofs.Common.{◌≡◌, ℕ, refl, sym, ap, ◌∙◌, subst, arith, Bool, List}
 use Rattle.std.specs.Prelude.{Option, Some, None, Vec}
 use Rattle.std.specs.declared.alloc.Global.{Global}
@@ -29,7 +29,7 @@ use Rattle.answer_laws.proofs.AlikeVerdicts.{Agree}
 use Rattle.answer_laws.proofs.CertOrder.{one_tree}
 use Rattle.answer_laws.proofs.SingleTables.{Comes, missed_lawful, two_tables}
 
--- Both are accepted, or both miss the same.
+-- Both results of checks are a success, or they agree.
 abbrev SaySame : Option Miss → Option Miss → Type 0
 SaySame None None = Unit {0}
 SaySame (Some m) (Some n) = SaySameMiss m n
@@ -59,7 +59,6 @@ one_place law f g made.Nodes made.Nodes t p r a b h k = h ∙ sym k
 -- ---- One goal
 
 module _ (never : NeverBoth) (place : OnePlace) (certs : List GoalCert) (grows : IsGrowingAfter None (certificates_of certs)) (ps : List TypedProcedure) (k : ℕ) (i : BoundGoal) where
-  -- A tree of such a goal is one of its procedure and its name.
   tree_of_goal : (g : NamedGoal) (t : Tree) → IsGoalOf ps k i g → HasTree certs g.proc g.id t → HasTree certs k (goal_id i) t
   tree_of_goal g t a h = subst (λ j. HasTree certs k j t) a.id_of (subst (λ n. HasTree certs n g.id t) a.proc h)
 

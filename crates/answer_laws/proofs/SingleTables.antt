@@ -1,4 +1,5 @@
--- A table gives one verdict, and two tables with findings that say the same give verdicts that say the same.
+-- A table determines one verdict, and two tables whose findings agree determine verdicts that
+-- agree.
 use Rattle.std.proofs.Common.{◌≡◌, ℕ, refl, sym, ap, ◌∙◌, subst, List, [], ◌∷◌}
 use Rattle.std.proofs.lemmas.Bool.{false≢true}
 use Rattle.std.specs.List.{AllZip}
@@ -50,7 +51,6 @@ lawful_rows f l [] p = tt
 lawful_rows f l (r ∷ rs) zero = lawful_row f l r
 lawful_rows f l (r ∷ rs) (suc p) = lawful_rows f l rs p
 
--- What comes of a file's goals is such a table.
 pub ordinary : {A : Type 0} (f : A → Outcome) → ((a : A) → IsLawful (f a)) → (Finds : NamedGoal → A → Type 0) (ps : List TypedProcedure) (table : List (List (GoalWith A))) → AreBoundsFound Finds ps 0 ps table → IsOrdinary ps (all_outcomes f table)
 ordinary f l Finds ps table h = record { bare = λ p e. bare_rows f Finds ps 0 ps table h p e; lawful = λ p. lawful_rows f l table p }
 
@@ -103,7 +103,7 @@ misses_give_one_verdict ps certs table h p v w a b =
 
 -- ---- Two tables
 
--- The outcomes come of findings that say the same.
+-- The outcomes belong to findings that agree.
 pub record Comes {A : Type 0} (f : A → Outcome) (S : A → A → Type 0) (o u : Outcome) : Type 0 where
   pub a : A
   pub b : A
@@ -129,6 +129,5 @@ module _ {A : Type 0} (f : A → Outcome) (S : A → A → Type 0) (Finds : Name
   rows_alike k (q ∷ qs) (r ∷ t) (s ∷ u) a b zero = row_alike k (bound_goals q) r s a.0 b.0
   rows_alike k (q ∷ qs) (r ∷ t) (s ∷ u) a b (suc p) = rows_alike (suc k) qs t u a.1 b.1 p
 
-  -- Verdicts by two tables.
   pub two_tables : (V : Verdict → Verdict → Type 0) → Agree (Comes f S) V → ((a : A) → IsLawful (f a)) → (t u : List (List (GoalWith A))) → AreBoundsFound Finds ps 0 ps t → AreBoundsFound Finds ps 0 ps u → (p : ℕ) (v w : Verdict) → IsVerdict ps (all_outcomes f t) p v → IsVerdict ps (all_outcomes f u) p w → V v w
   two_tables V agree l t u a b p v w h k = one_verdict (Comes f S) V agree ps (all_outcomes f t) (all_outcomes f u) (ordinary f l Finds ps t a) (ordinary f l Finds ps u b) (λ q. rows_alike 0 ps t u a b q) p v w h k

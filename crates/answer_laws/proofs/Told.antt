@@ -1,4 +1,4 @@
--- The goal that a verdict tells.
+-- The goal that a verdict reports.
 use Rattle.std.proofs.Common.{◌≡◌, ◌⊎◌, refl, sym, ◌∙◌, subst, Bool, true, false, List, [], ◌∷◌, inl, inr, ⊎_elim}
 use Rattle.std.proofs.lemmas.Bool.{false≢true}
 use Rattle.std.specs.Option.{option_or}
@@ -22,13 +22,12 @@ first_is : (P : GoalOutcome → Type 0) (test : Outcome → Bool) (os : List Goa
 first_is P test [] o h e = absurd (cc)
 first_is P test (x ∷ os) o h e = first_by P test x o (test x.outcome) (first_with test os) refl h.0 (λ k. first_is P test os o h.1 k) e
 
--- What is so of each goal is so of the one that is told, and this is falsified or open.
 pub told_is : (P : GoalOutcome → Type 0) (os : List GoalOutcome) (o : GoalOutcome) → Each P os → told os ≡ Some o → P o × ((is_falsified o.outcome ≡ true) ⊎ (is_open o.outcome ≡ true))
 told_is P os o h e = ⊎_elim (λ a. let f = first_is P is_falsified os o h a in (f.0, inl f.1)) (λ b. let f = first_is P is_open os o h b in (f.0, inr f.1)) (or_cases (first_with is_falsified os) (first_with is_open os) o e)
 
--- ---- Where all are proved
+-- ---- If all goals are proved
 
--- What is falsified or open isn't proved.
+-- An outcome that is falsified or open is not proved.
 pub record IsLawful (o : Outcome) : Type 0 where
   pub falsified : is_falsified o ≡ true → is_proved o ≡ false
   pub is_open : is_open o ≡ true → is_proved o ≡ false
@@ -47,7 +46,6 @@ each_proved : (os : List GoalOutcome) → Each IsLawfulOne os → all_proved os 
 each_proved [] l e = tt
 each_proved (o ∷ os) l e = let k = and_both (is_proved o.outcome) (all_proved os) e in ((l.0, k.0), each_proved os l.1 k.1)
 
--- Where a goal is told, not all are proved.
 pub told_unproved : (os : List GoalOutcome) (o : GoalOutcome) → Each IsLawfulOne os → told os ≡ Some o → all_proved os ≡ true → ⊥
 told_unproved os o l e h =
     let k = told_is IsLawfullyProved os o (each_proved os l h) e in

@@ -1,5 +1,6 @@
--- What the headline says of the answers on small files, computed: goals that fail and a ranking that is none in the states that are
--- shown, and goals that hold though their procedure is no program, or calls one that isn't shown.
+-- The promises of the headline about answers on small files, computed: goals that fail and a
+-- ranking that is none in the states that are shown, and goals that hold although their procedure
+-- is no program, or calls one that is not verified.
 use Rattle.std.proofs.Common.{refl, subst, sym, ◌≡◌, ℕ, Bool, true, false, List, [], ◌∷◌, pos}
 use Rattle.std.specs.Prelude.{Option, Some, None}
 use Rattle.heyvl_num.specs.Rational.{Rational, zeroʳ, oneʳ, halfʳ, ratio, leqʳ, ◌+ʳ◌, ◌*ʳ◌}
@@ -43,7 +44,7 @@ one = Form.number oneᵛ
 abbrev variable_of_type : ℕ → Ty → Variable
 variable_of_type n ty = record { name = n ∷ []; ty = ty }
 
--- ---- A weak proc whose post is 2: that its post is at most 1 fails in any state
+-- ---- A proc with `@wlp` whose post is 2: the goal that its post is at most 1 fails in every state
 
 abbrev big : TypedProcedure
 big = record nobody { co = false; weak = true; pre = one; post = constant (ratio (pos 2) 1); body = Some Acts.done }
@@ -58,7 +59,7 @@ big_is_falsified = record { goal = BoundGoal.post; id_of = refl; state = refl; f
 big_is_false_as_shown : IsFalseAsShown (big ∷ []) 0 Post []
 big_is_false_as_shown = record { goal = BoundGoal.post; id_of = refl; fails = record { typed = refl; fails = λ h. two_is_above_one h } }
 
--- ---- A callee that answers 2: 2 is above its pre
+-- ---- A callee that returns 2: 2 is above its pre
 
 abbrev two : TypedProcedure
 two = record nobody { outputs = variable_of_type 2 Ty.UInt ∷ []; pre = one; post = Form.variable 0; body = Some (only (Act.set 0 (Term.number (constant (ratio (pos 2) 1))) nowhere)) }
@@ -70,7 +71,7 @@ two_is_falsified : IsFalsifiedIn (caller ∷ two ∷ []) 1 Main (Num zeroʳ ∷ 
 unfolding zeroʳ ratio leqʳ
 two_is_falsified = record { goal = BoundGoal.main; id_of = refl; state = (refl, refl); fails = record { choices = Choices.stop; state = (refl, refl); fails = λ h. two_is_above_one h } }
 
--- ---- A coassume: behind it nothing counts, so the bound holds and says nothing of runs
+-- ---- A coassume: nothing after it counts, so that the bound holds and says nothing of runs
 
 abbrev vacuous : TypedProcedure
 vacuous = record nobody { post = constant (ratio (pos 5) 1); body = Some (only (Act.check CheckKind.CoAssume (Form.embed (Cond.constant true)) nowhere)) }
@@ -79,7 +80,7 @@ vacuous_holds : BoundGoalsHold (vacuous ∷ []) vacuous
 unfolding coimpliesᵛ zeroᵛ leqᵛ leqʳ zeroʳ ratio
 vacuous_holds = ((λ s c t. record { holds = refl }), tt)
 
--- ---- The caller: by what the callee claims, its goal holds
+-- ---- A caller: its goal holds, as the callee claims a bound
 
 once_it_holds : maxᵛ oneᵛ (covalidateᵛ zeroᵛ) ≤ᵛ oneᵛ
 unfolding maxᵛ covalidateᵛ is_zeroʳ zeroᵛ oneᵛ leqᵛ leqʳ zeroʳ oneʳ ratio
@@ -105,7 +106,7 @@ head rank = record { number = 1; k = 1; inv = Form.select (Cond.flag 2) (Form.su
 abbrev turn : Acts
 turn = Acts.next flip_stop (only stop_or_count)
 
--- With this ranking and this pre.
+-- The procedure with this ranking and this pre.
 abbrev geometric : Option (Rational × Form) → Rational → TypedProcedure
 geometric rank above = record nobody {
   inputs = variable_of_type 10 Ty.UInt ∷ [];
@@ -129,7 +130,7 @@ clash b e k = absurd (cc)
 abbrev low : TypedProcedure
 low = geometric None halfʳ
 
--- The invariant is 1 at the first test, and the pre 1/2.
+-- The invariant is 1 at the first test, and the pre is 1/2.
 low_is_too_low : leqᵛ (forward (encoding (low ∷ []) low) (value low.post) (environment (start false)) Choices.stop) (value low.pre (environment (start false)) Choices.stop) ≡ false
 unfolding maxᵛ coimpliesᵛ covalidateᵛ is_zeroʳ leqᵛ leqʳ ◌+ᵛ◌ ◌*ᵛ◌ zeroᵛ oneᵛ zeroʳ oneʳ halfʳ ◌+ʳ◌ ◌*ʳ◌ ratio gcd gcd_steps
 low_is_too_low = refl
@@ -139,11 +140,11 @@ low_is_falsified =
     let s = start_is_state None halfʳ false in
     record { goal = BoundGoal.main; id_of = refl; state = s; fails = record { choices = Choices.stop; state = s; fails = λ h. clash _ low_is_too_low h.holds } }
 
--- A ranking of 1 while it goes on.
+-- A ranking that is 1 while the loop continues.
 abbrev short : Rational × Form
 short = (oneʳ, Form.select (Cond.flag 2) one (Form.number zeroᵛ))
 
--- After a turn it is worth 1/2, so with the step it is 3/2.
+-- After one iteration its expected value is 1/2, so that it is 3/2 with the step.
 short_is_missed : leqᵛ (after_turn (head (Some short)) turn short (environment (start true)) Choices.stop) (value short.1 (environment (start true)) Choices.stop) ≡ false
 unfolding leqᵛ leqʳ ◌+ᵛ◌ ◌*ᵛ◌ zeroᵛ oneᵛ zeroʳ oneʳ halfʳ ◌+ʳ◌ ◌*ʳ◌ ratio gcd gcd_steps
 short_is_missed = refl

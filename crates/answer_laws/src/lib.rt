@@ -1,4 +1,5 @@
-//! Laws of answers: where no cause is at a goal, its answers are complete, and what comes of goals gives one verdict.
+//! Laws of answers: they are complete if no cause applies to a goal, the outcomes of goals
+//! determine one verdict, and certificates keep what was proved.
 #![tactic(auto)]
 
 mod laws;
