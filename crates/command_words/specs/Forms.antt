@@ -1,8 +1,7 @@
--- The forms of the commands: the word that each begins with, and what the words behind it are called; with the usage line. They are this
--- project's own.
+-- The forms of the commands and the usage line. This project's own.
 use Rattle.std.specs.Prelude.{List, [], codes, ◌++◌, ◌∷◌, ℕ}
 
--- The form of a command: its word, and what the words behind it are called.
+-- The form of a command: its name, and the names of its arguments.
 pub record Form : Type 0 where
   pub word : List ℕ
   pub names : List (List ℕ)
@@ -50,18 +49,19 @@ remainder = form (codes "remainder") (codes "FILE" ∷ codes "PROC" ∷ codes "N
 abbrev pub refute : Form
 refute = form (codes "refute") (codes "FILE" ∷ codes "PROC" ∷ codes "SCRIPT" ∷ [])
 
--- All of them, in the order in which the usage line has them.
+-- All forms, in the order of the usage line.
 abbrev pub forms : List Form
-forms = verify ∷ print ∷ run ∷ certify ∷ check ∷ generate ∷ pgcl ∷ omega_pair ∷ remainder ∷ refute ∷ []
+forms = verify ∷ print ∷ run ∷ certify ∷ check ∷ generate ∷ pgcl ∷ omega_pair ∷ remainder ∷ refute
+    ∷ []
 
 -- ---- The usage line
 
--- What words are called, with a space before each.
+-- The names, with a space before each.
 abbrev names_text : List (List ℕ) → List ℕ
 names_text [] = []
 names_text (name ∷ more) = codes " " ++ name ++ names_text more
 
--- A command with the names of its words.
+-- A command with the names of its arguments, for example `verify FILE`.
 abbrev pub form_text : Form → List ℕ
 form_text f = f.word ++ names_text f.names
 
@@ -71,6 +71,6 @@ forms_text [] = []
 forms_text (f ∷ []) = form_text f
 forms_text (f ∷ g ∷ more) = form_text f ++ codes " | " ++ forms_text (g ∷ more)
 
--- What is written where the words are no command.
+-- The line that is written if the arguments are not a valid command.
 abbrev pub usage_line : List ℕ
 usage_line = codes "usage: caesar " ++ forms_text forms ++ codes "\n"

@@ -1,6 +1,7 @@
--- The table of the requests: what stands on the command line for each command, and the files that it reads. What is said of their bytes
--- stands in a table above this one. It is this project's own.
-use Rattle.command_words.specs.Forms.{Form, certify, check, generate, omega_pair, pgcl, print, refute, remainder, run, verify}
+-- The table of the requests: the arguments of each command, and the files that it reads.
+-- `command_rules` has the table of the replies. This project's own.
+use Rattle.command_words.specs.Forms.{Form, certify, check, generate, omega_pair, pgcl, print}
+use Rattle.command_words.specs.Forms.{refute, remainder, run, verify}
 use Rattle.command_words.specs.LineCounts.{is_line_count}
 use Rattle.command_words.specs.declared.requests.Settings.TheVariants as commands
 use Rattle.command_words.specs.declared.requests.Settings.{Settings}
@@ -14,7 +15,8 @@ pub data Files : Type 0 where
   one : List ℕ → Files
   two : List ℕ → List ℕ → Files
 
--- A request: the form of the command, the words that stand behind the command's own, whether their numbers are in range, and the files.
+-- A request: the form of the command, its arguments, whether their numbers are in range, and its
+-- files.
 pub record Request : Type 0 where
   pub form : Form
   pub words : List (List ℕ)
@@ -25,26 +27,32 @@ pub record Request : Type 0 where
 abbrev pub request : Form → List (List ℕ) → Files → Request
 request form words files = record { form = form; words = words; fits = true; files = files }
 
--- The table: what stands on the command line for each command, and the files that it reads.
+-- The table of the requests.
 abbrev pub request_of : Settings → Request
 request_of (commands.Verify file) = request verify (file ∷ []) (Files.one file)
 request_of (commands.Print file) = request print (file ∷ []) (Files.one file)
-request_of (commands.Run file procedure script) = request run (file ∷ procedure ∷ script ∷ []) (Files.two file script)
+request_of (commands.Run file procedure script) =
+    request run (file ∷ procedure ∷ script ∷ []) (Files.two file script)
 request_of (commands.Certify file) = request certify (file ∷ []) (Files.one file)
-request_of (commands.Check file certificates) = request check (file ∷ certificates ∷ []) (Files.two file certificates)
-request_of (commands.Gen n) = record (request generate (decimal n ∷ []) Files.none) { fits = is_line_count n }
+request_of (commands.Check file certificates) =
+    request check (file ∷ certificates ∷ []) (Files.two file certificates)
+request_of (commands.Gen n) =
+    record (request generate (decimal n ∷ []) Files.none) { fits = is_line_count n }
 request_of (commands.Pgcl file) = request pgcl (file ∷ []) (Files.one file)
-request_of (commands.Omega file procedure name) = request omega_pair (file ∷ procedure ∷ name ∷ []) (Files.one file)
-request_of (commands.Remainder file procedure name) = request remainder (file ∷ procedure ∷ name ∷ []) (Files.one file)
-request_of (commands.Refute file procedure script) = request refute (file ∷ procedure ∷ script ∷ []) (Files.two file script)
+request_of (commands.Omega file procedure name) =
+    request omega_pair (file ∷ procedure ∷ name ∷ []) (Files.one file)
+request_of (commands.Remainder file procedure name) =
+    request remainder (file ∷ procedure ∷ name ∷ []) (Files.one file)
+request_of (commands.Refute file procedure script) =
+    request refute (file ∷ procedure ∷ script ∷ []) (Files.two file script)
 
 -- ---- Its columns
 
--- The words behind the command's own.
+-- The arguments of a command, without its name.
 abbrev pub arguments_of : Settings → List (List ℕ)
 arguments_of settings = (request_of settings).words
 
--- All words that ask for it.
+-- The name of a command and its arguments.
 abbrev pub words_of : Settings → List (List ℕ)
 words_of settings = (request_of settings).form.word ∷ arguments_of settings
 

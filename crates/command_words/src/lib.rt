@@ -1,4 +1,7 @@
-//! The words of the command line: what they may ask for, and the files that a command names.
+//! The arguments of the command line: the commands that they ask for, and the files of each
+//! command.
+//!
+//! `AllocError` means that memory ran out.
 #![tactic(auto)]
 
 mod requests;

@@ -1,4 +1,4 @@
-//! What the words of the command line ask for.
+//! The requests that arguments of the command line make.
 
 ghost use Rattle.command_words.specs.Requests.{files_of};
 ghost use Rattle.command_words.specs.declared.requests.SettingsStop.TheVariants.{Memory};
@@ -9,28 +9,30 @@ use crate::Word;
 use std::alloc::AllocError;
 use thiserror::Error;
 
-/// What the words ask for.
+/// A command with its arguments.
 #[derive(Drop)]
 pub enum Settings {
     /// `verify FILE`: the report on the file.
     Verify(Word),
     /// `print FILE`: the canonical text of the file.
     Print(Word),
-    /// `run FILE PROC SCRIPT`: the sums over the runs of a procedure of the file, by a script.
+    /// `run FILE PROC SCRIPT`: the sums over the runs of a procedure of the file under a script.
     Run(Word, Word, Word),
     /// `certify FILE`: the certificates of the file's proved goals.
     Certify(Word),
     /// `check FILE CERT`: the report on the file by certificates.
     Check(Word, Word),
-    /// `gen N`: the summary of the answers on the generated text of so many lines, from 1 to 1,024.
+    /// `gen N`: the summary of the answers on the generated text of N lines, from 1 to 1,024.
     Gen(u32),
-    /// `pgcl FILE`: the file of HeyVL that a program of guarded commands becomes.
+    /// `pgcl FILE`: the HeyVL file of a program of guarded commands.
     Pgcl(Word),
-    /// `omega FILE PROC NAME`: whether the second procedure's pre is an omega invariant of the first one's loop.
+    /// `omega FILE PROC NAME`: whether the pre of NAME is an omega invariant of the loop of PROC.
     Omega(Word, Word, Word),
-    /// `remainder FILE PROC NAME`: whether the second procedure's pre bounds the turns of the first one's loop.
+    /// `remainder FILE PROC NAME`: whether PROC's runs that terminate within m iterations
+    /// contribute at least pre(PROC) - pre(NAME)/(E*m), where E is the step of its ranking.
     Remainder(Word, Word, Word),
-    /// `refute FILE PROC SCRIPT`: the least number of steps at which a run by the script passes the procedure's pre.
+    /// `refute FILE PROC SCRIPT`: the least number of steps after which the runs of PROC under a
+    /// script exceed its pre.
     Refute(Word, Word, Word),
 }
 
@@ -43,7 +45,7 @@ pub enum Files<'a> {
 }
 
 impl Settings {
-    /// The files of the command.
+    /// Returns the files of the command.
     pub fn files(&self) -> Files<'_>
         ensures { named result ≡ files_of self.now }
     {
@@ -64,10 +66,10 @@ impl Settings {
     }
 }
 
-/// Why the words ask for nothing.
+/// Why arguments make no request.
 #[derive(Debug, Drop, Error)]
 pub enum SettingsStop {
-    /// They are no command.
+    /// The arguments are not a valid command.
     #[error("no command")]
     Usage,
     /// Memory ran out.

@@ -1,11 +1,11 @@
-//! The words of the command line.
+//! Arguments of the command line.
 
 ghost use Rattle.std.specs.Prelude.{IfOk, List, string_bytes, ◌≡◌, ℕ};
 
 use std::alloc::{AllocError, Global};
 use std::marker::Model;
 
-/// A word of the command line.
+/// An argument of the command line.
 #[derive(Drop)]
 pub struct Word {
     text: String,
@@ -18,7 +18,7 @@ impl Model for Word {
 }
 
 impl Word {
-    /// The word that this text spells.
+    /// Returns the argument with this text.
     pub fn new(alloc: Global, text: &str) -> Result<Word, AllocError>
         ensures { IfOk result (λ word. word ≡ text.now) }
     {
@@ -27,7 +27,7 @@ impl Word {
         })
     }
 
-    /// The text of the word.
+    /// Returns the text of the argument.
     pub fn as_str(&self) -> &str
         ensures { result.now ≡ self.now }
     {
