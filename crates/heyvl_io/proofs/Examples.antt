@@ -5,7 +5,7 @@ use Rattle.heyvl_io.specs.Faults.{Rose, next_count}
 use Rattle.heyvl_io.specs.History.{History, handed_out, with_start, with_bytes, since_start, IsTaken}
 use Rattle.heyvl_io.specs.Order.{untold, first, other, order_after}
 
--- the names `a` and `bc`
+-- The names `a` and `bc`.
 a : List ℕ
 a = 97 ∷ []
 
@@ -41,7 +41,7 @@ other_for_good = refl
 untold_for_good : order_after names a untold ≡ untold
 untold_for_good = refl
 
--- two of three bytes, in a buffer of four
+-- Two of three bytes, in a buffer of four.
 two_of_three : HandsOut (Some (1 ∷ 2 ∷ 3 ∷ [])) (Some (3 ∷ [])) (1 ∷ 2 ∷ 9 ∷ 9 ∷ []) 2
 two_of_three = record { front = refl; end = λ none. absurd (omega arith) }
 
@@ -76,7 +76,7 @@ did_not_rise : Rose 3 3 → ⊥
 did_not_rise (inl less) = omega arith
 did_not_rise (inr last) = omega arith
 
--- `a` was started and two bytes read of it, then `bc` was started and nothing read yet
+-- `a` was started and two bytes of it were read, then `bc` was started and nothing was read.
 two_starts : History
 two_starts = handed_out a (1 ∷ 2 ∷ []) ∷ (handed_out bc [] ∷ [])
 
@@ -88,7 +88,7 @@ a_start_more : with_start (handed_out a (1 ∷ 2 ∷ []) ∷ []) bc ≡ two_star
 unfolding two_starts a bc
 a_start_more = refl
 
--- a name that is started again has an entry of its own
+-- A name that is started again has another entry.
 a_start_again : with_start two_starts bc ≡ handed_out a (1 ∷ 2 ∷ []) ∷ (handed_out bc [] ∷ (handed_out bc [] ∷ []))
 unfolding two_starts a bc
 a_start_again = refl

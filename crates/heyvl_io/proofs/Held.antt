@@ -1,4 +1,4 @@
--- What the place of a name says of the bytes that the name holds.
+-- The bytes of a name, by the place of its file.
 use Rattle.std.proofs.Common.{◌≡◌, ℕ, true, false, cond, nat_lt, List, [], length, Some, None, option_map, ⊎_elim, sym, ◌∙◌, ap, arith}
 use Rattle.std.proofs.lemmas.Bool.Decides.{nat_tests}
 use Rattle.std.proofs.lemmas.List.Folds.{find_at}

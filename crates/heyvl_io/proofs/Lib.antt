@@ -1,5 +1,6 @@
 pub mod exported
 mod Examples
+mod CauseExamples
 mod Held
 mod Told
 mod Pieces

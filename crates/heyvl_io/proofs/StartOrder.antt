@@ -1,4 +1,4 @@
--- What a start does to the order of starts.
+-- The order after one more start.
 use Rattle.std.specs.Prelude.{◌≡◌, ◌≢◌, ℕ, Bool, true, false, List, Option, Some, None, slice_get}
 use Rattle.std.proofs.Common.{refl, ap, ◌∙◌, sym}
 use Rattle.std.specs.Str.{bytes_eq}

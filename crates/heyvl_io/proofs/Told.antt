@@ -1,4 +1,4 @@
--- Bytes that are told, after one read or write more.
+-- Bytes that are reported, after one more read or write.
 use Rattle.std.proofs.Common.{◌≡◌, ℕ, ◌+◌, List, [], ◌++◌, take, drop, Option, Some, None, refl, sym, ◌∙◌, ap, arith}
 use Rattle.std.proofs.lemmas.List.{append_assoc, take-take, take-append-drop, drop-take, drop-drop}
 use Rattle.heyvl_io.specs.Bytes.{before_rest, with_appended, HandsOut}
@@ -17,7 +17,7 @@ pub before_twice : (xs ys : List ℕ) (left : Option (List ℕ)) → before_rest
 before_twice xs ys None = refl
 before_twice xs ys (Some rest) = ap Some (sym (append_assoc xs ys rest))
 
--- the first n bytes of what stands behind a place, where none come only from nothing
+-- The first `n` bytes after a place. There are none only if nothing is left.
 pub hands_out_at : (bytes buffer : List ℕ) (place n : ℕ) → take n buffer ≡ take n (drop place bytes) → (n ≡ 0 → drop place bytes ≡ []) → HandsOut (Some (drop place bytes)) (Some (drop (place + n) bytes)) buffer n
 hands_out_at bytes buffer place n copied end = record {
   front =

@@ -1,3 +1,3 @@
-/// A call to the outside failed. What it was to do may be tried again, and may fail again.
+/// The failure of a call of a device. The call may be repeated, and may fail again.
 #[derive(Clone, Copy, Debug, PartialEq, Eq)]
 pub struct Failed;

@@ -6,19 +6,20 @@ use std::fs;
 use std::io::Read;
 use std::rt::Files;
 
-/// The files of the system, by their paths. It tells neither their bytes nor its order.
+/// The files of the system, by their paths. This source reports neither their bytes nor the order
+/// of starts.
 #[derive(Drop)]
 pub struct FileSource<R: Files> {
     runtime: R,
     file: Option<R::File>,
-    /// How many calls failed. At its last value it stands still.
+    /// The number of calls that failed. It stays at its largest value.
     pub faults: u64,
     log: Log,
     pub ghost begun: { IsSome file → 0 < length log.history },
 }
 
 impl<R: Files> FileSource<R> {
-    /// A source that nothing was read from.
+    /// Returns a source of which nothing has been read.
     pub fn new(runtime: R) -> Self
         ensures faults { result.faults ≡ 0 }
         ensures history { result.log.history ≡ [] }

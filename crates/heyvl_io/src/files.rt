@@ -3,20 +3,21 @@ ghost use Rattle.std.specs.List.{position};
 ghost use Rattle.heyvl_io.specs.Files.{text_names, is_named, started_bytes, numbered_order};
 ghost use Rattle.heyvl_io.specs.Order.{order_after};
 
-// The place of the first file of a name.
+// Returns the place of the first file with this name.
 pub(crate) fn place_of(files: &[(String, Vec<u8>)], name: &str) -> Option<usize>
     ensures { result ≡ position (is_named name.now) files.now }
 {
     files.iter().position(|file| name == file.0.as_str())
 }
 
-// The order after one more start, of this name.
+// Returns the order after a start of `name`.
 pub(crate) fn next_order(
     files: &[(String, Vec<u8>)],
     order: Option<usize>,
     name: &str,
 ) -> Option<usize>
-    ensures { numbered_order result ≡ order_after (text_names files.now) name.now (numbered_order order) }
+    ensures { numbered_order result
+        ≡ order_after (text_names files.now) name.now (numbered_order order) }
 {
     let started = order?;
     let next = files.get(started)?;
@@ -27,7 +28,7 @@ pub(crate) fn next_order(
     }
 }
 
-// The bytes of the started file.
+// Returns the bytes of the started file.
 pub(crate) fn bytes_at(files: &[(String, Vec<u8>)], started: Option<usize>) -> &[u8]
     ensures { result.now ≡ started_bytes files.now started }
 {
@@ -37,7 +38,8 @@ pub(crate) fn bytes_at(files: &[(String, Vec<u8>)], started: Option<usize>) -> &
     }
 }
 
-// Copies bytes to the front of the buffer: as many as there are and fit, but at most `most`.
+// Copies bytes to the start of `into`: as many as there are and fit, but at most `most`. Returns
+// their number.
 pub(crate) fn copy_front(from: &[u8], into: &mut [u8], most: usize) -> usize
     ensures count { result ≡ min (min (length from.now) (length into.old)) most }
     ensures front { take result into.new ≡ take result from.now }

@@ -1,4 +1,6 @@
-//! The outside: where bytes are read from and written to, in memory and for real.
+//! The devices: sources of bytes to read and sinks to write to, in memory and real ones.
+//!
+//! `AllocError` means that memory ran out.
 #![tactic(auto)]
 
 mod failures;

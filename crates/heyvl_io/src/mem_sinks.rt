@@ -1,28 +1,29 @@
-ghost use Rattle.std.specs.Prelude.{◌≡◌, ◌⊎◌, ◌+◌, ◌<◌, ◌≤◌, [], ◌++◌, length, take, min, vec_len, vec_capacity, Contains, IfOk, OnErr, IsErr, Some};
+ghost use Rattle.std.specs.Prelude.{◌≡◌, ◌⊎◌, ◌+◌, ◌<◌, ◌≤◌, [], ◌++◌, length, take, min, vec_len};
+ghost use Rattle.std.specs.Prelude.{vec_capacity, Contains, IfOk, OnErr, IsErr, Some};
 ghost use Rattle.heyvl_io.specs.Faults.{Rose, next_count, faults_after};
 
 use crate::{Failed, Sink};
 use std::alloc::{AllocError, Global};
 
-/// Bytes in memory, of which writes fail by a list.
+/// A sink in memory whose writes fail as a list says.
 #[derive(Drop)]
 pub struct MemSink {
     /// The bytes that were written.
     pub bytes: Vec<u8>,
-    /// The most bytes that one write takes, at least 1.
+    /// The largest number of bytes that one write takes, at least 1.
     pub most: usize,
     /// The numbers of the calls that fail.
     pub fail: Vec<u64>,
-    /// The number of the next call, counted from 0. At its last value it stands still.
+    /// The number of the next call, from 0. It stays at its largest value.
     pub calls: u64,
-    /// How many calls failed. At its last value it stands still.
+    /// The number of calls that failed. It stays at its largest value.
     pub faults: u64,
     pub ghost takes_some: { 0 < most },
 }
 
 impl MemSink {
-    /// A sink that nothing was written to, with memory for `room` bytes. A write takes at most `most` bytes, and the calls of
-    /// these numbers fail.
+    /// Returns a sink to which nothing has been written, with memory for `room` bytes. A write
+    /// takes at most `most` bytes, and the calls with the numbers in `fail` fail.
     pub fn new(alloc: Global, room: usize, most: usize, fail: Vec<u64>) -> Result<Self, AllocError>
         requires { 0 < most }
         ensures bytes { IfOk result (λ sink. sink.bytes.items ≡ []) }
@@ -47,14 +48,17 @@ impl Sink for MemSink {
 
     ghost faults = { λ s. s.faults };
 
-    /// Fails if its number is in the list, or where there is no memory for what it takes: never within the room.
+    /// Fails if the number of the call is in `fail`, or if memory for the bytes runs out. Within
+    /// the room of `new` there is memory.
     fn write(&mut self, piece: &[u8]) -> Result<usize, Failed>
         requires { 0 < length piece.now }
         ensures listed { Contains self.old.fail.items self.old.calls → IsErr result }
         ensures refused { IsErr result → Contains self.old.fail.items self.old.calls
-            ⊎ (vec_capacity self.old.bytes < vec_len self.old.bytes + min (length piece.now) self.old.most) }
+            ⊎ (vec_capacity self.old.bytes
+            < vec_len self.old.bytes + min (length piece.now) self.old.most) }
         ensures number { IfOk result (λ n. n ≡ min (length piece.now) self.old.most) }
-        ensures bytes { IfOk result (λ n. self.new.bytes.items ≡ self.old.bytes.items ++ take n piece.now) }
+        ensures bytes { IfOk result
+            (λ n. self.new.bytes.items ≡ self.old.bytes.items ++ take n piece.now) }
         ensures kept { OnErr result (self.new.bytes.items ≡ self.old.bytes.items) }
         ensures room { vec_capacity self.old.bytes ≤ vec_capacity self.new.bytes }
 

@@ -1,33 +1,37 @@
-ghost use Rattle.std.specs.Prelude.{◌≡◌, ◌⊎◌, ◌+◌, ◌<◌, ◌≤◌, ◌↔◌, [], length, take, min, Contains, IfOk, OnErr, OnOk, IsErr, IsSome, Some, None};
+ghost use Rattle.std.specs.Prelude.{◌≡◌, ◌⊎◌, ◌+◌, ◌<◌, ◌≤◌, ◌↔◌, [], length, take, min, Contains};
+ghost use Rattle.std.specs.Prelude.{IfOk, OnErr, OnOk, IsErr, IsSome, Some, None};
 ghost use Rattle.heyvl_io.specs.Bytes.{HandsOut};
 ghost use Rattle.heyvl_io.specs.Faults.{Rose, next_count, faults_after};
-ghost use Rattle.heyvl_io.specs.Files.{text_names, held_bytes, started_bytes, rest_at, numbered_order};
+ghost use Rattle.heyvl_io.specs.Files.{text_names, held_bytes, started_bytes, rest_at};
+ghost use Rattle.heyvl_io.specs.Files.{numbered_order};
 ghost use Rattle.heyvl_io.specs.History.{with_start, with_bytes};
 ghost use Rattle.heyvl_io.specs.Order.{order_after};
 
 use crate::files::{bytes_at, copy_front, next_order, place_of};
 use crate::{Failed, Log, Source};
 
-/// Named texts in memory, of which calls fail by a list. Of equal names the first counts.
+/// A source of named texts in memory whose calls fail as a list says. Of equal names the first
+/// counts.
 #[derive(Drop)]
 pub struct MemSource {
     /// The names and their bytes.
     pub files: Vec<(String, Vec<u8>)>,
-    /// The most bytes that one read gives, at least 1.
+    /// The largest number of bytes that one read returns, at least 1.
     pub most: usize,
     /// The numbers of the calls that fail.
     pub fail: Vec<u64>,
-    /// The number of the next call, counted from 0 over starts and reads. At its last value it stands still.
+    /// The number of the next call, from 0, over starts and reads. It stays at its largest value.
     pub calls: u64,
-    /// How many calls failed. At its last value it stands still.
+    /// The number of calls that failed. It stays at its largest value.
     pub faults: u64,
     /// The place of the started name among the files.
     pub started: Option<usize>,
-    /// How many of its bytes were read.
+    /// The number of its bytes that have been read.
     pub place: usize,
-    /// How many starts there were, where they were of the first names, in their order and once each.
+    /// The number of starts, if they were of the first names in their order and once each;
+    /// otherwise `None`.
     pub order: Option<usize>,
-    /// What it handed out.
+    /// The history of the source.
     pub log: Log,
     pub ghost gives_some: { 0 < most },
     pub ghost within: { place ≤ length (started_bytes files.items started) },
@@ -35,7 +39,8 @@ pub struct MemSource {
 }
 
 impl MemSource {
-    /// A source that nothing was read from. A read gives at most `most` bytes, and the calls of these numbers fail.
+    /// Returns a source of which nothing has been read. A read returns at most `most` bytes, and
+    /// the calls with the numbers in `fail` fail.
     pub fn new(files: Vec<(String, Vec<u8>)>, most: usize, fail: Vec<u64>) -> Self
         requires { 0 < most }
         ensures files { result.files ≡ files }
@@ -75,17 +80,20 @@ impl Source for MemSource {
 
     ghost faults = { λ s. s.faults };
 
-    /// Fails if its number is in the list, or where there is no such name.
+    /// Fails if the number of the call is in `fail`, or if there is no such name.
     #[tactic(auto, using(crate::proofs::Held::held_at))]
     fn start(&mut self, name: &str) -> Result<(), Failed>
         ensures fails { IsErr result ↔
-            (Contains self.old.fail.items self.old.calls ⊎ (held_bytes self.old.files.items name.now ≡ None)) }
-        ensures left { OnOk result (Some (rest_at self.new.files.items self.new.started self.new.place)
+            (Contains self.old.fail.items self.old.calls
+            ⊎ (held_bytes self.old.files.items name.now ≡ None)) }
+        ensures left { OnOk result
+            (Some (rest_at self.new.files.items self.new.started self.new.place)
             ≡ held_bytes self.old.files.items name.now) }
         ensures nothing { OnErr result (self.new.started ≡ None) }
         ensures place { self.new.place ≡ 0 }
         ensures order { numbered_order self.new.order
-            ≡ order_after (text_names self.old.files.items) name.now (numbered_order self.old.order) }
+            ≡ order_after (text_names self.old.files.items) name.now
+            (numbered_order self.old.order) }
         ensures history { self.new.log.history ≡ with_start self.old.log.history name.now }
 
         ensures files { self.new.files ≡ self.old.files }
@@ -109,12 +117,13 @@ impl Source for MemSource {
         Ok(())
     }
 
-    /// Fails if its number is in the list.
+    /// Fails if the number of the call is in `fail`.
     fn read(&mut self, into: &mut [u8]) -> Result<usize, Failed>
         requires { 0 < length into.old }
         ensures fails { IsErr result ↔ Contains self.old.fail.items self.old.calls }
         ensures number { IfOk result (λ n. n ≡ min (min
-            (length (rest_at self.old.files.items self.old.started self.old.place)) (length into.old)) self.old.most) }
+            (length (rest_at self.old.files.items self.old.started self.old.place))
+            (length into.old)) self.old.most) }
         ensures bytes { IfOk result (λ n. HandsOut
             (Some (rest_at self.old.files.items self.old.started self.old.place))
             (Some (rest_at self.new.files.items self.new.started self.new.place)) into.new n) }
@@ -122,7 +131,8 @@ impl Source for MemSource {
         ensures kept { OnErr result (self.new.place ≡ self.old.place) }
         ensures started { self.new.started ≡ self.old.started }
         ensures order { self.new.order ≡ self.old.order }
-        ensures history { IfOk result (λ n. self.new.log.history ≡ with_bytes self.old.log.history (take n into.new)) }
+        ensures history { IfOk result
+            (λ n. self.new.log.history ≡ with_bytes self.old.log.history (take n into.new)) }
         ensures history_kept { OnErr result (self.new.log.history ≡ self.old.log.history) }
         ensures begun { IfOk result (λ n. 0 < n → 0 < length self.old.log.history) }
 

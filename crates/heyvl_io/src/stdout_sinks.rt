@@ -2,16 +2,16 @@ ghost use Rattle.std.specs.Prelude.{◌≡◌, None};
 
 use crate::{Failed, Sink};
 
-/// The standard output. It doesn't tell what was written.
+/// The standard output. This sink does not report what was written.
 #[derive(Drop)]
 pub struct StdoutSink<R: Print> {
     runtime: R,
-    /// How many calls failed, or took no byte. At its last value it stands still.
+    /// The number of calls that failed or took no byte. It stays at its largest value.
     pub faults: u64,
 }
 
 impl<R: Print> StdoutSink<R> {
-    /// A sink that nothing was written to.
+    /// Returns a sink to which nothing has been written.
     pub fn new(runtime: R) -> Self
         ensures { result.faults ≡ 0 }
     {

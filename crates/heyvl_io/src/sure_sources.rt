@@ -1,4 +1,5 @@
-ghost use Rattle.std.specs.Prelude.{◌≡◌, ◌+◌, ◌<◌, ◌≤◌, [], length, take, min, unwrap_or, IfOk, IsOk, IsSome, Some, None};
+ghost use Rattle.std.specs.Prelude.{◌≡◌, ◌+◌, ◌<◌, ◌≤◌, [], length, take, min, unwrap_or, IfOk};
+ghost use Rattle.std.specs.Prelude.{IsOk, IsSome, Some, None};
 ghost use Rattle.heyvl_io.specs.Bytes.{HandsOut};
 ghost use Rattle.heyvl_io.specs.Files.{text_names, held_bytes, started_bytes, rest_at};
 ghost use Rattle.heyvl_io.specs.History.{with_start, with_bytes};
@@ -7,18 +8,19 @@ ghost use Rattle.heyvl_io.specs.Order.{untold};
 use crate::files::{bytes_at, copy_front, place_of};
 use crate::{Failed, Log, Source};
 
-/// Named texts in memory, of which no call fails. A name that isn't there holds no bytes. Of equal names the first counts.
+/// A source of named texts in memory whose calls do not fail. A name that does not exist has no
+/// bytes. Of equal names the first counts.
 #[derive(Drop)]
 pub struct SureSource {
     /// The names and their bytes.
     pub files: Vec<(String, Vec<u8>)>,
-    /// The most bytes that one read gives, at least 1.
+    /// The largest number of bytes that one read returns, at least 1.
     pub most: usize,
     /// The place of the started name among the files.
     pub started: Option<usize>,
-    /// How many of its bytes were read.
+    /// The number of its bytes that have been read.
     pub place: usize,
-    /// What it handed out.
+    /// The history of the source.
     pub log: Log,
     pub ghost gives_some: { 0 < most },
     pub ghost within: { place ≤ length (started_bytes files.items started) },
@@ -26,7 +28,7 @@ pub struct SureSource {
 }
 
 impl SureSource {
-    /// A source that nothing was read from. A read gives at most `most` bytes.
+    /// Returns a source of which nothing has been read. A read returns at most `most` bytes.
     pub fn new(files: Vec<(String, Vec<u8>)>, most: usize) -> Self
         requires { 0 < most }
         ensures files { result.files ≡ files }
@@ -79,12 +81,14 @@ impl Source for SureSource {
         requires { 0 < length into.old }
         ensures ok { IsOk result }
         ensures number { IfOk result (λ n. n ≡ min (min
-            (length (rest_at self.old.files.items self.old.started self.old.place)) (length into.old)) self.old.most) }
+            (length (rest_at self.old.files.items self.old.started self.old.place))
+            (length into.old)) self.old.most) }
         ensures bytes { IfOk result (λ n. HandsOut
             (Some (rest_at self.old.files.items self.old.started self.old.place))
             (Some (rest_at self.new.files.items self.new.started self.new.place)) into.new n) }
         ensures place { IfOk result (λ n. self.new.place ≡ self.old.place + n) }
-        ensures history { IfOk result (λ n. self.new.log.history ≡ with_bytes self.old.log.history (take n into.new)) }
+        ensures history { IfOk result
+            (λ n. self.new.log.history ≡ with_bytes self.old.log.history (take n into.new)) }
         ensures begun { IfOk result (λ n. 0 < n → 0 < length self.old.log.history) }
 
         ensures started { self.new.started ≡ self.old.started }

@@ -4,17 +4,22 @@ ghost use Rattle.heyvl_io.specs.Faults.{Rose};
 
 use crate::Sink;
 
-/// A sink failed: only the first `written` bytes were written.
+/// The failure of a sink after the first `written` bytes.
 #[derive(Clone, Copy, Debug, PartialEq, Eq)]
 pub struct Cut {
-    /// How many bytes were written.
+    /// The number of bytes that were written.
     pub written: u64,
 }
 
-/// Writes all the bytes, and says how many they are.
+/// Writes all bytes, and returns their number.
+///
+/// # Errors
+///
+/// If the sink fails, `Cut` has the number of bytes that were written before.
 pub fn write_all<K: Sink>(sink: &mut K, bytes: &[u8]) -> Result<u64, Cut>
     ensures all { IfOk result (λ n. n ≡ length bytes.now) }
-    ensures appended { OnOk result (K.written sink.new ≡ with_appended (K.written sink.old) bytes.now) }
+    ensures appended { OnOk result
+        (K.written sink.new ≡ with_appended (K.written sink.old) bytes.now) }
 
     ensures cut { IfErr result (λ cut. cut.written < length bytes.now) }
     ensures front { IfErr result (λ cut.

@@ -4,7 +4,7 @@ use Rattle.heyvl_io.specs.History.{handed_out}
 use Rattle.heyvl_io.specs.Order.{order_after}
 use Rattle.heyvl_io.proofs.reader.read_all.Given as goal
 
--- the bytes so far are those that were taken, and what is left comes behind them
+-- The bytes so far are those that were read, and the bytes that are left follow them.
 abbrev pub invariant-loop-end : goal.invariant-loop-end
 invariant-loop-end g l = record {
   within : vec_len l.bytes ≤ l.limit;

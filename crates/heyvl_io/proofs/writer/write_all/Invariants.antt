@@ -2,7 +2,7 @@ use Rattle.std.proofs.Common.{length, ◌-◌, ◌≡◌, ◌≤◌, take}
 use Rattle.heyvl_io.specs.Bytes.{with_appended}
 use Rattle.heyvl_io.proofs.writer.write_all.Given as goal
 
--- the bytes up to `done` were appended
+-- -
 abbrev pub invariant-loop-done : goal.invariant-loop-done
 invariant-loop-done g l = record {
   within : l.done ≤ length l.bytes;

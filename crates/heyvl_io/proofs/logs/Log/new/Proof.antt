@@ -1,4 +1,4 @@
--- `new` makes a value of no bytes, at the empty history.
+-- `new` makes a value of no bytes, with the empty history.
 use mathlib.Core.Path.{refl}
 use mathlib.Core.List.{[], ◌∷◌}
 use seplogic.Ra.Ura.{Ura}

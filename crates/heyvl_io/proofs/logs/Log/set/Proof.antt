@@ -1,4 +1,4 @@
--- An empty body. The borrow is opened, and closed at the history that the caller picks.
+-- The body is empty. The borrow is opened, and closed with the history that the caller chooses.
 use Rattle.std.proofs.Common.{ℕ, List, [], ◌∷◌, ◌<◌, ◌^◌, length, refl, MutBor}
 use seplogic.Ra.Ura.{Ura}
 use mir.Syntax.{named}
