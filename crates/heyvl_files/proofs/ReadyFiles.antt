@@ -1,4 +1,4 @@
--- The typed tree of a file that bytes spell is ready for the commands.
+-- Every command may use the typed tree of a file that bytes spell.
 use Rattle.heyvl_syntax.proofs.exported.InOrder.{tokens_few}
 use Rattle.heyvl_syntax.specs.Procedures.{Procedure}
 use Rattle.heyvl_syntax.specs.SourceFaults.{IsSource}

@@ -1,5 +1,7 @@
-//! Files of HeyVL from bytes: the file that they spell, or that the program of guarded commands that they spell becomes; its typed tree; and
-//! the faults.
+//! Files of HeyVL from bytes: the file that they spell, or the file of the program of guarded
+//! commands that they spell; its typed tree; and the errors.
+//!
+//! `AllocError` means that memory ran out.
 #![tactic(auto)]
 
 mod programs;

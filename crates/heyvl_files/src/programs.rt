@@ -1,6 +1,7 @@
-//! Files that programs of guarded commands become.
+//! The files of programs of guarded commands.
 
-ghost use Rattle.spelled_files.specs.Programs.{HasProgramSums, IsProgramFile, IsProgramStop, IsTranslationStop};
+ghost use Rattle.spelled_files.specs.Programs.{HasProgramSums, IsProgramFile, IsProgramStop};
+ghost use Rattle.spelled_files.specs.Programs.{IsTranslationStop};
 ghost use Rattle.spelled_files.specs.Sources.{file_limit};
 ghost use Rattle.heyvl_syntax.specs.Procedures.{procedures};
 ghost use Rattle.pgcl_front.specs.Sources.{IsPgclSource};
@@ -12,10 +13,12 @@ use pgcl_front::{PgclStop, translate};
 use spelled_files::{SourceStop, program_files_have_sums, token_place};
 use std::alloc::Global;
 
-/// The file that the program with these bytes becomes, or the first of its faults of bytes, tokens and names.
+/// Returns the file of the program with these bytes, or the first of its errors of bytes, tokens
+/// and names.
 fn translated_file(alloc: Global, bytes: &[u8]) -> Result<File, SourceStop>
     requires { length bytes.now ≤ file_limit }
-    ensures { MatchResult result (λ file. IsPgclSource bytes.now (procedures file)) (λ stop. IsTranslationStop bytes.now stop) }
+    ensures { MatchResult result (λ file. IsPgclSource bytes.now (procedures file))
+        (λ stop. IsTranslationStop bytes.now stop) }
 {
     let tokens = match lex(alloc, bytes) {
         Ok(tokens) => tokens,
@@ -32,12 +35,19 @@ fn translated_file(alloc: Global, bytes: &[u8]) -> Result<File, SourceStop>
     }
 }
 
-/// The file of HeyVL that the program of guarded commands with these bytes becomes, at most 1,048,576 of them, where it has no static fault; or
-/// the program's first fault: 1 to 3, then 5, 30 and 31, and then those of the file, each at a place of the program. The file has the sums
-/// of the program's runs, and so has each file that its canonical text spells.
+/// Returns the file of the program of guarded commands with these bytes. The file has no static
+/// error. It has the sums of the program's runs, and so has each file that its canonical text
+/// spells.
+///
+/// # Errors
+///
+/// - `Fault`: the first error of the program, at its place: 1 to 3, then 5, 30 and 31, then the
+///   static ones of the file.
+/// - `Memory`: memory ran out.
 pub fn program_file(alloc: Global, bytes: &[u8]) -> Result<File, SourceStop>
     requires { length bytes.now ≤ file_limit }
-    ensures made { MatchResult result (λ file. IsProgramFile bytes.now (procedures file)) (λ stop. IsProgramStop bytes.now stop) }
+    ensures made { MatchResult result (λ file. IsProgramFile bytes.now (procedures file))
+        (λ stop. IsProgramStop bytes.now stop) }
     ensures sums { IfOk result (λ file. HasProgramSums bytes.now (procedures file)) }
 {
     program_files_have_sums();
