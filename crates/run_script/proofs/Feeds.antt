@@ -1,4 +1,4 @@
--- The lines of a text.
+-- The lines of a text: their number, and that there is one.
 use Rattle.run_script.specs.Lines.{without_last_feed}
 use Rattle.std.proofs.Common.{Bool, List, [], ap, arith, cond, false, if◌then◌else◌, length, map, refl, sym, true, ◌+◌, ◌++◌, ◌<◌, ◌==◌, ◌||◌, ◌∙◌, ◌∷◌, ◌≡◌, ◌≤◌, ℕ}
 use Rattle.std.proofs.lemmas.List.Splits.{length-slice_split}
@@ -28,13 +28,11 @@ no_last_feed text front b e other = rw e (feed_behind front b ∙ kept)
     kept : (if b == 10 then front else front ++ b ∷ []) ≡ front ++ b ∷ []
     kept = rw other refl
 
--- There are at most as many parts as bytes, and one more.
 pub few_parts : {A : Type 0} (f : A → List ℕ) (p : ℕ → Bool) (parts : List A) (text whole : List ℕ) → map f parts ≡ slice_split p text → length text ≤ length whole → length parts ≤ length whole + 1
 few_parts f p parts text whole e shorter =
     let same : length parts ≡ length (slice_split p text) = sym (length-map parts f) ∙ ap length e in
     omega (arith, same, length-slice_split p text, count_by-le-length p text, shorter)
 
--- There is a part.
 pub some_part : {A : Type 0} (f : A → List ℕ) (p : ℕ → Bool) (parts : List A) (text : List ℕ) → map f parts ≡ slice_split p text → 0 < length parts
 some_part f p parts text e =
     let same : length parts ≡ length (slice_split p text) = sym (length-map parts f) ∙ ap length e in

@@ -1,4 +1,4 @@
--- The steps that a line says are at most 10,000.
+-- The steps of a `steps` line are at most 10,000.
 use Rattle.heylo_formula.specs.declared.values.Val.{Val}
 use Rattle.heyvl_syntax.specs.Literals.{number}
 use Rattle.run_machine.specs.declared.configurations.Decide.{Decide}

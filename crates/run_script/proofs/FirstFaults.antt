@@ -1,4 +1,4 @@
--- The first fault of a text.
+-- The first invalid line of a text.
 use Rattle.run_script.proofs.NextLines.{at_the_end, before_all, no_more, none_begins}
 use Rattle.run_script.specs.Lines.{said}
 use Rattle.run_script.specs.Scripts.{AreFirstLines, AreLinesOf, IsFirstFaultOf, Known, Script}
@@ -8,9 +8,9 @@ use Rattle.std.proofs.Math.Seq.{take-append_seam}
 use Rattle.std.proofs.lemmas.Bool.{cases_order}
 use Rattle.std.proofs.lemmas.List.{take-append-le}
 
--- ---- Where reading stops
+-- ---- The line at which reading stops
 
--- At the first line.
+-- The first line is invalid.
 pub fault_at_first : (known : Known) (first : List ℕ) (behind : List (List ℕ)) → begun (said first) ≡ None → IsFirstFaultOf known (first ∷ behind) 1
 fault_at_first known first behind e = record {
   before = [];
@@ -22,7 +22,7 @@ fault_at_first known first behind e = record {
   refused = none_begins known first e;
 }
 
--- At a later line.
+-- A later line is invalid.
 pub fault_behind : (known : Known) (s : Script) (lines before : List (List ℕ)) (next : List ℕ) (behind : List (List ℕ)) (number : ℕ)
     → AreLinesOf known s before → gone_on known s (said next) ≡ None → lines ≡ before ++ next ∷ behind → number ≡ length before + 1 → IsFirstFaultOf known lines number
 fault_behind known s lines before next behind number h e parts place = record {
@@ -37,7 +37,6 @@ fault_behind known s lines before next behind number h e parts place = record {
 
 -- ---- Laws
 
--- Of lines with which a script goes on, it goes on with the first ones.
 first_of_first : (known : Known) (lines more : List (List ℕ)) → AreFirstLines known (lines ++ more) → AreFirstLines known lines
 first_of_first known lines more h = record {
   script = h.script;
@@ -53,7 +52,8 @@ no_fault known s lines n h fault =
       whole = subst (AreLinesOf known s) (fault.parts ∙ sym (append_assoc fault.before (fault.next ∷ []) fault.behind)) h;
     })
 
--- The lines up to the earlier one of two faults are first lines of those before the later one.
+-- The lines up to the earlier one of two invalid lines are first lines of those before the later
+-- one.
 earlier : (lines before : List (List ℕ)) (next : List ℕ) (behind others : List (List ℕ)) (other : List ℕ) (more : List (List ℕ))
     → lines ≡ before ++ next ∷ behind → lines ≡ others ++ other ∷ more → length before < length others → (before ++ next ∷ []) ++ drop (length before + 1) others ≡ others
 earlier lines before next behind others other more e f less =

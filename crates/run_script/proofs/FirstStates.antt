@@ -22,7 +22,6 @@ state_made p settings =
     let others = map_twice (λ x. default x.ty) variable_of (drop (p.inputs + p.outputs) p.vars.items) ∙ ap (map (λ x. default x.ty)) (sym (drop-map variable_of (p.inputs + p.outputs) p.vars.items)) in
     ap₂ (λ a b. a ++ b) known others
 
--- The variables of the procedure are those that the program holds, in their order.
 pub variables_held : (p : TProc) → variables (procedure_of p) ≡ map variable_of p.vars.items
 variables_held p =
     let held = map variable_of p.vars.items in

@@ -1,4 +1,4 @@
--- The order of a script's lines: with which line more it is one still.
+-- The order of a script's lines, and the lines that may follow.
 use Rattle.heyvl_acts.proofs.exported.Each.{each_second, each_append}
 use Rattle.heyvl_acts.specs.Rules.{Each}
 use Rattle.run_machine.specs.declared.configurations.Decide.{Decide}
@@ -12,7 +12,7 @@ use Rattle.std.proofs.lemmas.List.{append-nil, map-append}
 use Rattle.std.specs.List.{AllByRecursion, IsDistinct, list_any}
 use Rattle.std.specs.Str.{bytes_eq}
 
--- ---- Tests
+-- ---- Boolean tests
 
 both_true : (a b : Bool) → (a && b) ≡ true → (a ≡ true) × (b ≡ true)
 both_true true b e = (refl, e)
@@ -68,9 +68,8 @@ not_set (x ∷ settings) s more h =
     let other : bytes_eq x.name s.name ≡ false = middle_is (λ y. bytes_eq x.name y ≡ false) (map name_of settings) s.name (map name_of more) (subst (λ ys. AllByRecursion (λ y. bytes_eq x.name y ≡ false) ys) names h.0) in
     rw (other, not_set settings s more h.1) refl
 
--- ---- A setting more
+-- ---- One more setting
 
--- A setting that may stand behind others is of another variable that takes it.
 setting_behind : (known : Known) (settings : List Setting) (s : Setting) → AreSettings known settings → may_set known settings s ≡ true → AreSettings known (settings ++ s ∷ [])
 setting_behind None settings s h e = each_append (λ x. x.name ≢ []) settings (s ∷ []) h (some_length s.name e, tt)
 setting_behind (Some variables) settings s h e =
@@ -80,20 +79,19 @@ setting_behind (Some variables) settings s h e =
       subst (IsDistinct bytes_eq) (sym names) (distinct_behind (map name_of settings) s.name h.1 (apart s.name settings (not_true (is_set s.name settings) two.1))),
     )
 
--- And each setting of a script may stand behind those before it.
+-- Each setting of a script may follow the settings before it.
 setting_between : (known : Known) (settings : List Setting) (s : Setting) (more : List Setting) → AreSettings known (settings ++ s ∷ more) → may_set known settings s ≡ true
 setting_between None settings s more h = is_some_length s.name (each_second (λ x. x.name ≢ []) settings (s ∷ more) h).0
 setting_between (Some variables) settings s more h =
     let taken = (each_second (λ x. list_any (takes x) variables ≡ true) settings (s ∷ more) h.0).0 in
     rw (taken, not_set settings s more h.1) refl
 
--- ---- A line more
+-- ---- One more line
 
--- The lines behind the first.
+-- The lines after the first one.
 abbrev later : List Setting → List Decide → List Line
 later settings decisions = map Line.set settings ++ map Line.decide decisions
 
--- A line that may follow comes behind the others.
 pub line_behind : (known : Known) (s : Script) (line : Line) → may_follow known s line ≡ true → lines_of (with_line s line) ≡ lines_of s ++ line ∷ []
 line_behind known s (Line.steps n) e = cc
 line_behind known s (Line.set setting) e =
@@ -109,7 +107,6 @@ line_behind known s (Line.decide d) e =
     (ap (λ ls. map Line.set s.settings ++ ls) (map-append Line.decide s.decisions (d ∷ []))
     ∙ sym (append_assoc (map Line.set s.settings) (map Line.decide s.decisions) (Line.decide d ∷ [])))
 
--- With it there is still a script.
 pub script_behind : (known : Known) (s : Script) (line : Line) → IsScript known s → may_follow known s line ≡ true → IsScript known (with_line s line)
 script_behind known s (Line.steps n) h e = cc
 script_behind known s (Line.set setting) h e =
@@ -117,7 +114,7 @@ script_behind known s (Line.set setting) h e =
     record { steps = h.steps; settings = setting_behind known s.settings setting h.settings two.1 }
 script_behind known s (Line.decide d) h e = record { steps = h.steps; settings = h.settings }
 
--- ---- Lines that a script goes on with
+-- ---- Lines with which a script continues
 
 abbrev is_steps : Line → Bool
 is_steps (Line.steps n) = true
@@ -144,7 +141,8 @@ no_setting_later decisions lines s more e =
     let here = (each_second (λ line. is_setting line ≡ false) lines (Line.set s ∷ more) all).0 in
     cc
 
--- Where a setting comes behind these settings and decisions, there are no such decisions, and it is the next setting.
+-- If a setting follows these settings and decisions, there are no decisions, and it is the next
+-- setting.
 record ComesNext (whole settings : List Setting) (decisions : List Decide) (s : Setting) : Type 0 where
   none : decisions ≡ []
   rest : List Setting
@@ -162,7 +160,7 @@ comes_next [] ends [] [] s more e = absurd (no_setting_later ends [] s more e)
 comes_next (y ∷ whole) ends [] (d ∷ decisions) s more e = cc
 comes_next [] ends [] (d ∷ decisions) s more e = absurd (no_setting_later ends (map Line.decide (d ∷ decisions)) s more e)
 
--- A line with which a script goes on may follow.
+-- A line with which a script continues may follow.
 pub line_between : (known : Known) (t s : Script) (line : Line) (more : List Line) → IsScript known t → lines_of t ≡ lines_of s ++ line ∷ more → may_follow known s line ≡ true
 line_between known t s (Line.steps n) more h e =
     let tails : later t.settings t.decisions ≡ later s.settings s.decisions ++ Line.steps n ∷ more = cc in

@@ -1,4 +1,4 @@
--- Reading lines one by one: with which line a script goes on, and with which none does.
+-- Reading lines one by one: the lines with which a script continues, and the others.
 use Rattle.run_script.proofs.LineOrder.{line_behind, line_between, same_script, script_behind}
 use Rattle.run_script.proofs.FewSteps.{said_few}
 use Rattle.run_script.specs.Lines.{Line, said}
@@ -8,9 +8,8 @@ use Rattle.std.proofs.Common.{Bool, List, None, Option, Some, [], ap, append_ass
 use Rattle.std.proofs.lemmas.List.{append-nil, map-append}
 use Rattle.std.specs.List.{IsDistinct}
 
--- ---- Lists of what lines say
+-- ---- Lists of lines
 
--- What stands behind lines that say these.
 pub rest_said : (os : List (Option Line)) (xs ys : List Line) → map Some xs ++ os ≡ map Some ys → (more : List Line) × ((ys ≡ xs ++ more) × (os ≡ map Some more))
 rest_said os [] ys e = (ys, (refl, e))
 rest_said os (x ∷ xs) [] e = cc
@@ -29,9 +28,8 @@ same_said (x ∷ xs) (y ∷ ys) e =
     let tails : map Some xs ≡ map Some ys = cc in
     ap (λ zs. x ∷ zs) (same_said xs ys tails) ∙ ap (λ z. z ∷ ys) same
 
--- ---- A line more
+-- ---- One more line
 
--- The lines of a script, and one that goes on.
 pub goes_on : (known : Known) (s t : Script) (lines : List (List ℕ)) (next : List ℕ) → AreLinesOf known s lines → gone_on known s (said next) ≡ Some t → AreLinesOf known t (lines ++ next ∷ [])
 goes_on known s t lines next h e = by_line (said next) refl e
   where
@@ -53,7 +51,7 @@ goes_on known s t lines next h e = by_line (said next) refl e
     by_line None is e = cc
     by_line (Some line) is e = one line is (may_follow known s line) refl e
 
--- What a script goes on with behind the lines of another.
+-- The line with which a script continues after the lines of another script.
 between : (known : Known) (s t : Script) (lines others : List (List ℕ)) (next : List ℕ) → AreLinesOf known s lines → AreLinesOf known t ((lines ++ next ∷ []) ++ others)
     → (line : Line) × ((said next ≡ Some line) × (may_follow known s line ≡ true))
 between known s t lines others next h k =
@@ -66,7 +64,6 @@ between known s t lines others next h k =
     found [] e f = cc
     found (line ∷ more) e f = let is : said next ≡ Some line = cc in (line, (is, line_between known t s line more k.allowed e))
 
--- No script goes on with a line that may not follow.
 pub no_more : (known : Known) (s : Script) (lines : List (List ℕ)) (next : List ℕ) → AreLinesOf known s lines → gone_on known s (said next) ≡ None → AreFirstLines known (lines ++ next ∷ []) → ⊥
 no_more known s lines next h e first =
     let found = between known s first.script lines first.others next h first.whole in
@@ -107,7 +104,6 @@ none_begins known first e h = let is : said first ≡ Some (Line.steps h.script.
     no : begun (said first) ≡ Some (record { steps = h.script.steps; settings = []; decisions = [] }) → begun (said first) ≡ None → ⊥
     no a b = cc
 
--- Before the first line a script may go on.
 pub before_all : (known : Known) → AreFirstLines known []
 before_all known = record {
   script = record { steps = 0; settings = []; decisions = [] };
@@ -115,7 +111,6 @@ before_all known = record {
   whole = record { allowed = record { steps = omega arith; settings = no_setting known }; one_by_one = refl };
 }
 
--- A script goes on behind its own lines.
 pub at_the_end : (known : Known) (s : Script) (lines : List (List ℕ)) → AreLinesOf known s lines → AreFirstLines known lines
 at_the_end known s lines h = record { script = s; others = []; whole = subst (AreLinesOf known s) (sym (append-nil lines)) h }
 

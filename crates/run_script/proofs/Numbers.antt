@@ -1,4 +1,4 @@
--- Numbers of a script that digits write, below a limit.
+-- Numbers that a script writes in digits, below a limit.
 use Rattle.heyvl_num.specs.Exact.{exact_quotient, is_small, quotient, quotient_fits}
 use Rattle.heyvl_num.specs.Rational.{ratio}
 use Rattle.heyvl_syntax.specs.Literals.{with_digit}
@@ -11,7 +11,6 @@ use Rattle.std.proofs.lemmas.Int.{fits_signed_from_abs, to_z-of_z}
 use Rattle.std.proofs.lemmas.List.{at_drop_more}
 use Rattle.std.specs.Int.{w128}
 
--- More digits make no smaller number.
 pub grows : (n : ℕ) (digits : List ℕ) → n ≤ fold with_digit n digits
 grows n [] = omega arith
 grows n (d ∷ ds) = omega (arith, grows (with_digit n d) ds)
@@ -26,7 +25,7 @@ over limit n h = pick (nat_lt n limit) refl h
 none_over : (limit n : ℕ) → limit ≤ n → below limit n ≡ None
 none_over limit n h = let e : nat_lt n limit ≡ false = grind (arith, nat_tests) in rw e refl
 
--- The digits up to the k-th make too large a number, and so do all.
+-- If the first digits make a number that is not below the limit, so do all digits.
 pub over_early : (limit start n : ℕ) (digits : List ℕ) (k : ℕ) → k < length digits → fold with_digit start digits ≡ fold with_digit n (drop k digits) → below limit (with_digit n (get_or digits k 0)) ≡ None → below limit (fold with_digit start digits) ≡ None
 over_early limit start n digits k lt e h =
     let step : fold with_digit n (drop k digits) ≡ fold with_digit (with_digit n (get_or digits k 0)) (drop (k + 1) digits) = at_drop_more (fold with_digit n) digits k 0 lt in
@@ -34,7 +33,7 @@ over_early limit start n digits k lt e h =
     let large = over limit (with_digit n (get_or digits k 0)) h in
     none_over limit (fold with_digit start digits) (rw (e, step) (omega arith))
 
--- Small numbers make a fraction, where the divisor isn't 0.
+-- Small numbers make a fraction, unless the denominator is 0.
 fraction_known : (a : ℤ) (d : ℕ) → unsigned_abs a < 2 ^ 126 → d < 2 ^ 126 → exact_quotient a (pos d) ≡ (if d == 0 then None else Some (ratio a d))
 unfolding exact_quotient quotient_fits quotient
 fraction_known a zero h k = refl

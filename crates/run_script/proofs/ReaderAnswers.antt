@@ -1,4 +1,4 @@
--- What reading answers, where a text spells a script or has a first fault.
+-- The result of reading a text that spells a script or has a first invalid line.
 use Rattle.run_script.proofs.FirstFaults.{no_fault, same_fault}
 use Rattle.run_script.proofs.NextLines.{same_lines}
 use Rattle.run_script.specs.PlainScripts.{script_of}

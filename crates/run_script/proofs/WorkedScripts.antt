@@ -1,4 +1,4 @@
--- Worked scripts: what each says, or the number of the first line with which no script goes on.
+-- Worked texts: the script that each spells, or its first invalid line.
 use Rattle.heylo_formula.specs.declared.types.Ty.{Ty}
 use Rattle.heylo_formula.specs.declared.values.Val.TheVariants.{Num, Truth}
 use Rattle.heylo_formula.specs.declared.values.Val.{Val}
@@ -13,7 +13,8 @@ use Rattle.run_machine.specs.declared.configurations.Decide.{Decide}
 use Rattle.std.specs.List.{IsDistinct}
 use Rattle.std.proofs.Common.{List, None, Some, [], arith, codes, false, map, neg_ℤ, pos, refl, true, ◌++◌, ◌∷◌, ◌≡◌, ℕ}
 
--- The inputs and the output of `coproc a(n: UInt, b: Bool, t: UReal, i: Int) -> (x: UInt)`, whose body may have a local variable u.
+-- The inputs and the output of `coproc a(n: UInt, b: Bool, t: UReal, i: Int) -> (x: UInt)`, whose
+-- body may have a local variable u.
 abbrev known : Known
 known = Some (record { name = codes "n"; ty = Ty.UInt } ∷ record { name = codes "b"; ty = Ty.Bool } ∷ record { name = codes "t"; ty = Ty.UReal } ∷ record { name = codes "i"; ty = Ty.Int } ∷ record { name = codes "x"; ty = Ty.UInt } ∷ [])
 
@@ -23,11 +24,11 @@ set name value = record { name = name; value = value }
 abbrev Breaks : List ℕ → ℕ → Type 0
 Breaks text line = IsFirstFault known text line
 
--- A script that says nothing but its steps.
+-- The script without settings and decisions.
 abbrev OnlySteps : List ℕ → ℕ → Type 0
 OnlySteps text n = Spells known (record { steps = n; settings = []; decisions = [] }) text
 
--- Lines.
+-- Forms of lines.
 whole_script : Spells known (record { steps = 7; settings = set (codes "n") (Num (ratio (pos 3) 1)) ∷ set (codes "t") (Num (ratio (pos 6) 4)) ∷ []; decisions = Left ∷ Give (Num (ratio (neg_ℤ (pos 2)) 1)) ∷ [] }) (codes "steps 7\nset n 3\nset t 6/4\ndecide left\ndecide -2\n")
 unfolding ratio gcd gcd_steps leqʳ zeroʳ
 whole_script = read_right known (codes "steps 7\nset n 3\nset t 6/4\ndecide left\ndecide -2\n")
@@ -53,7 +54,7 @@ trailing_space = read_right known (codes "steps 1\ndecide left \n")
 two_spaces : Breaks (codes "steps  1\n") 1
 two_spaces = read_right known (codes "steps  1\n")
 
--- Steps.
+-- Numbers of steps.
 most_steps : OnlySteps (codes "steps 10000\n") 10000
 most_steps = read_right known (codes "steps 10000\n")
 
@@ -108,14 +109,14 @@ decide_before_set : Breaks (codes "steps 1\ndecide true\nset n 1\n") 3
 unfolding ratio gcd gcd_steps leqʳ zeroʳ
 decide_before_set = read_right known (codes "steps 1\ndecide true\nset n 1\n")
 
--- Where there is no such procedure.
+-- Scripts if there is no procedure to run.
 any_name : Spells None (record { steps = 1; settings = set (codes "q") (Truth true) ∷ set (codes "q") (Truth false) ∷ []; decisions = [] }) (codes "steps 1\nset q true\nset q false\n")
 any_name = read_right None (codes "steps 1\nset q true\nset q false\n")
 
 empty_name : IsFirstFault None (codes "steps 1\nset  true\n") 2
 empty_name = read_right None (codes "steps 1\nset  true\n")
 
--- ---- The definitions themselves, without a program
+-- ---- The definitions, without the plain reader
 
 by_hand : Spells known (record { steps = 7; settings = set (codes "b") (Truth true) ∷ []; decisions = Left ∷ [] }) (codes "steps 07\nset b true\ndecide left\n")
 unfolding IsDistinct

@@ -1,4 +1,4 @@
--- Worked starts over a state that is shown: what is set, else what is shown, else false or 0.
+-- Worked first states: the values that are set, those that are shown, and false or 0.
 use Rattle.heylo_formula.specs.Formula.{Form}
 use Rattle.heylo_formula.specs.declared.types.Ty.{Ty}
 use Rattle.heylo_formula.specs.declared.values.Val.TheVariants.{Num, Truth}
@@ -36,7 +36,8 @@ setting name value = record { name = name; value = value }
 abbrev zeros : List Val
 zeros = Num zeroʳ ∷ Num zeroʳ ∷ Truth false ∷ []
 
--- What is set comes before what is shown; the others keep the values that are shown, also where they are local.
+-- A value that is set precedes one that is shown. The other variables, also local ones, have the
+-- values that are shown.
 set_before_shown : start_state_over worked (setting (codes "x") (number 3) ∷ []) (number 2 ∷ number 5 ∷ Truth true ∷ []) ≡ number 2 ∷ number 3 ∷ Truth true ∷ []
 unfolding ratio gcd gcd_steps leqʳ zeroʳ
 set_before_shown = refl
@@ -48,7 +49,7 @@ few_shown = refl
 none_shown : (start_state_over worked [] [] ≡ zeros) × (start_state worked [] ≡ zeros)
 none_shown = (refl, refl)
 
--- A value of another type isn't taken.
+-- A value of another type is not taken.
 another_type : start_state_over worked [] (Truth true ∷ Num (ratio (neg_ℤ (pos 1)) 1) ∷ []) ≡ zeros
 unfolding ratio gcd gcd_steps leqʳ zeroʳ
 another_type = refl

@@ -1,4 +1,4 @@
--- Scripts and variables that the program holds, read as those of the definitions.
+-- Scripts and variables that the program holds, read as plain data. This project's own.
 use Rattle.heyvl_acts.specs.PlainActs.{variable_of}
 use Rattle.heyvl_acts.specs.declared.typed_trees.VarInfo.{VarInfo}
 use Rattle.run_script.specs.Scripts as scripts
@@ -6,7 +6,7 @@ use Rattle.run_script.specs.declared.scripts.Script.{Script}
 use Rattle.std.specs.Borrow.{Bor}
 use Rattle.std.specs.Prelude.{List, Option, map, option_map}
 
--- What a script says that the program holds.
+-- A script that the program holds.
 abbrev pub script_of : Script → scripts.Script
 script_of s = record { steps = s.steps; settings = s.settings.items; decisions = s.decisions.items }
 

@@ -1,4 +1,4 @@
--- The texts of what a run by a script comes to. This project's own.
+-- The texts of the results of a run under a script. This project's own.
 use Rattle.heyvl_num.specs.Rational.{Rational}
 use Rattle.heyvl_num.specs.Value.Value.{finite, infinite}
 use Rattle.heyvl_num.specs.Value.{Value}
@@ -11,27 +11,35 @@ abbrev pub sum_text : Value → List ℕ
 sum_text (finite q) = fraction_text q
 sum_text infinite = codes "infinity"
 
--- `loop N turns F`, a line for each loop; the first has this number.
+-- A line `loop N turns F` for each loop, where F is the expected number of its iterations. The
+-- first loop has the number `n`.
 abbrev pub turns_text : ℕ → List Rational → List ℕ
 turns_text n [] = []
-turns_text n (t ∷ ts) = codes "loop " ++ decimal n ++ codes " turns " ++ fraction_text t ++ codes "\n" ++ turns_text (n + 1) ts
+turns_text n (t ∷ ts) = codes "loop " ++ decimal n ++ codes " turns " ++ fraction_text t
+    ++ codes "\n" ++ turns_text (n + 1) ts
 
--- `post E`, `reward E`, `running F`, and a line for each loop of the procedure.
+-- The lines `post E`, `reward E` and `running F`, then a line for each loop of the procedure. F is
+-- the mass not yet terminated.
 abbrev pub sums_text : Totals → List ℕ
-sums_text t = codes "post " ++ sum_text t.post ++ codes "\nreward " ++ sum_text t.reward ++ codes "\nrunning " ++ fraction_text t.running ++ codes "\n" ++ turns_text 1 t.turns
+sums_text t = codes "post " ++ sum_text t.post ++ codes "\nreward " ++ sum_text t.reward
+    ++ codes "\nrunning " ++ fraction_text t.running ++ codes "\n" ++ turns_text 1 t.turns
 
--- The cause is `runs`, `values` or `bits`.
+-- `stop_text cause step`: the line on a run that was stopped at the step `step`. The cause is
+-- `runs`, `values` or `bits`.
 abbrev pub stop_text : List ℕ → ℕ → List ℕ
-stop_text cause step = codes "run stopped at step " ++ decimal step ++ codes ": " ++ cause ++ codes "\n"
+stop_text cause step = codes "run stopped at step " ++ decimal step ++ codes ": " ++ cause
+    ++ codes "\n"
 
--- The line on a script with a fault in this line.
+-- The line on an invalid script, whose first invalid line is `line`.
 abbrev pub script_fault_text : ℕ → List ℕ
 script_fault_text line = codes "script line " ++ decimal line ++ codes ": fault\n"
 
--- The line on a procedure of which the runs' sum passes its pre at this step.
+-- The line on a procedure whose runs of `step` steps exceed its pre.
 abbrev pub violation_text : List ℕ → ℕ → Value → Value → List ℕ
-violation_text name step sum pre = name ++ codes ": violated at step " ++ decimal step ++ codes ": " ++ sum_text sum ++ codes " above " ++ sum_text pre ++ codes "\n"
+violation_text name step sum pre = name ++ codes ": violated at step " ++ decimal step ++ codes ": "
+    ++ sum_text sum ++ codes " above " ++ sum_text pre ++ codes "\n"
 
--- The line on one of which it doesn't in so many steps.
+-- The line on a procedure whose runs do not exceed its pre within `steps` steps.
 abbrev pub within_text : List ℕ → Value → ℕ → Value → List ℕ
-within_text name pre steps sum = name ++ codes ": within " ++ sum_text pre ++ codes " at step " ++ decimal steps ++ codes ": " ++ sum_text sum ++ codes "\n"
+within_text name pre steps sum = name ++ codes ": within " ++ sum_text pre ++ codes " at step "
+    ++ decimal steps ++ codes ": " ++ sum_text sum ++ codes "\n"

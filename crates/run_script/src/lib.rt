@@ -1,4 +1,7 @@
-//! Scripts of runs: what one says, where a run by it starts, and the text of what it comes to.
+//! Scripts of runs: their texts, the state in which a run under a script starts, and the text of
+//! its result.
+//!
+//! `AllocError` means that memory ran out.
 #![tactic(auto)]
 
 mod laws;

@@ -1,26 +1,29 @@
-//! What a line of a script says.
+//! The lines of a script.
 
 ghost use Rattle.heyvl_num.specs.Rational.{ratio};
 ghost use Rattle.heyvl_syntax.specs.Literals.{with_digit};
-ghost use Rattle.run_script.specs.Lines.{are_digits, below, decision, line_of_parts, natural, number_of_parts, pair_line, quotient, said, script_number, script_value, triple_line, value_limit, whole};
+ghost use Rattle.run_script.specs.Lines.{are_digits, below, decision, line_of_parts, natural};
+ghost use Rattle.run_script.specs.Lines.{number_of_parts, pair_line, quotient, said, script_number};
+ghost use Rattle.run_script.specs.Lines.{script_value, triple_line, value_limit, whole};
 ghost use Rattle.run_script.specs.internal.ReadLines.{line_of};
 ghost use Rattle.run_script.specs.Lines.Line.{decide, steps};
 ghost use Rattle.std.specs.Char.{is_ascii_digit};
 ghost use Rattle.std.specs.List.{list_all, slice_split};
-ghost use Rattle.std.specs.Prelude.{IfOk, IfSome, None, Some, fold, if◌then◌else◌, map, option_map, pos, unsigned_abs, ◌<◌, ◌==◌, ◌^◌, ◌≡◌, ◌≤◌};
+ghost use Rattle.std.specs.Prelude.{IfOk, IfSome, None, Some, fold, if◌then◌else◌, map, option_map};
+ghost use Rattle.std.specs.Prelude.{pos, unsigned_abs, ◌<◌, ◌==◌, ◌^◌, ◌≡◌, ◌≤◌};
 
 use heylo_formula::Val;
 use heyvl_num::Frac;
 use run_machine::Decide;
 use std::alloc::{AllocError, Global};
 
-/// The most steps of a run, and one more.
+/// The number of steps of a run is below this one.
 const STEP_LIMIT: u128 = 10_001;
 
-/// The numbers of values are below this one.
+/// The numbers in values are below this one.
 const VALUE_LIMIT: u128 = 1 << 126;
 
-/// A line of a script, read by itself.
+/// A line of a script.
 #[derive(Clone, Copy, Debug)]
 pub(crate) enum Line<'a> {
     /// `steps N`
@@ -31,9 +34,10 @@ pub(crate) enum Line<'a> {
     Decide(Decide),
 }
 
-/// The parts of a text, which this byte separates.
+/// Returns the parts of a text between separators.
 pub(crate) fn parts(alloc: Global, text: &[u8], separator: u8) -> Result<Vec<&[u8]>, AllocError>
-    ensures { IfOk result (λ parts. map (λ part. part.now) parts.items ≡ slice_split (λ b. b == separator) text.now) }
+    ensures { IfOk result (λ parts. map (λ part. part.now) parts.items
+        ≡ slice_split (λ b. b == separator) text.now) }
 {
     text.split(|byte| *byte == separator).collect(alloc)
 }
@@ -44,14 +48,14 @@ fn all_digits(text: &[u8]) -> bool
     text.iter().all(|byte| byte.is_ascii_digit())
 }
 
-/// Whether one or more digits stand here, and nothing else.
+/// Returns whether the text is one or more digits.
 fn are_digits(text: &[u8]) -> bool
     ensures { result ≡ are_digits text.now }
 {
     !text.is_empty() && all_digits(text)
 }
 
-/// The number with one more digit, where it is below the limit.
+/// Returns the number with one more digit, if it is below the limit.
 fn with_digit(limit: u128, number: u128, digit: u8) -> Option<u128>
     requires { limit ≤ 2 ^ 126 }
     ensures { result ≡ below limit (with_digit number digit) }
@@ -62,7 +66,7 @@ fn with_digit(limit: u128, number: u128, digit: u8) -> Option<u128>
     if more < limit { Some(more) } else { None }
 }
 
-/// The number that the digits write, where it is below the limit.
+/// Returns the number with these digits, if it is below the limit.
 fn number(limit: u128, digits: &[u8]) -> Option<u128>
     requires some { 0 < limit }
     requires within { limit ≤ 2 ^ 126 }
@@ -76,7 +80,7 @@ fn number(limit: u128, digits: &[u8]) -> Option<u128>
     Some(number)
 }
 
-/// The natural number that digits write, where it is below the limit.
+/// Returns the natural number that the text writes in digits, if it is below the limit.
 fn natural(limit: u128, text: &[u8]) -> Option<u128>
     requires some { 0 < limit }
     requires within { limit ≤ 2 ^ 126 }
@@ -90,7 +94,6 @@ fn natural(limit: u128, text: &[u8]) -> Option<u128>
     }
 }
 
-/// The number as a signed one.
 fn signed(number: u128) -> i128
     requires { number < 2 ^ 126 }
     ensures { result ≡ pos number }
@@ -98,7 +101,7 @@ fn signed(number: u128) -> i128
     number as i128
 }
 
-/// The fraction, where the second number isn't 0.
+/// Returns the fraction `num`/`den`, unless `den` is 0.
 fn fraction(num: i128, den: u128) -> Option<Frac>
     requires num { unsigned_abs num < 2 ^ 126 }
     requires den { den < 2 ^ 126 }
@@ -107,7 +110,7 @@ fn fraction(num: i128, den: u128) -> Option<Frac>
     Frac::new(num, signed(den))
 }
 
-/// A natural number of a value.
+/// Returns the natural number that the text writes, if a value may contain it.
 fn part(text: &[u8]) -> Option<u128>
     ensures value { result ≡ natural value_limit text.now }
     ensures small { IfSome result (λ n. n < 2 ^ 126) }
@@ -115,7 +118,7 @@ fn part(text: &[u8]) -> Option<u128>
     natural(VALUE_LIMIT, text)
 }
 
-/// A whole number: digits, with `-` before them where it is negative.
+/// Returns the integer that the text writes: digits, with `-` before them if it is negative.
 fn whole(text: &[u8]) -> Option<Frac>
     ensures { result ≡ whole text.now }
 {
@@ -126,7 +129,7 @@ fn whole(text: &[u8]) -> Option<Frac>
     }
 }
 
-/// `P/Q`, where Q isn't 0.
+/// Returns the fraction `P/Q`, unless Q is 0.
 fn quotient(p: &[u8], q: &[u8]) -> Option<Frac>
     ensures { result ≡ quotient (natural value_limit p.now) (natural value_limit q.now) }
 {
@@ -135,7 +138,7 @@ fn quotient(p: &[u8], q: &[u8]) -> Option<Frac>
     fraction(signed(num), den)
 }
 
-/// The number of a text with these parts between its strokes.
+/// Returns the number whose text has these parts between slashes.
 fn number_of_parts(parts: &[&[u8]]) -> Option<Frac>
     ensures { result ≡ number_of_parts (map (λ part. part.now) parts.now) }
 {
@@ -146,7 +149,7 @@ fn number_of_parts(parts: &[&[u8]]) -> Option<Frac>
     }
 }
 
-/// A whole number or a fraction.
+/// Returns the integer or the fraction that the text writes.
 fn script_number(alloc: Global, text: &[u8]) -> Result<Option<Frac>, AllocError>
     ensures { IfOk result (λ number. number ≡ script_number text.now) }
 {
@@ -154,7 +157,7 @@ fn script_number(alloc: Global, text: &[u8]) -> Result<Option<Frac>, AllocError>
     Ok(number_of_parts(&parts))
 }
 
-/// `true`, `false` or a number.
+/// Reads `true`, `false` or a number.
 fn script_value(alloc: Global, text: &[u8]) -> Result<Option<Val>, AllocError>
     ensures { IfOk result (λ value. value ≡ script_value text.now) }
 {
@@ -167,7 +170,7 @@ fn script_value(alloc: Global, text: &[u8]) -> Result<Option<Val>, AllocError>
     Ok(script_number(alloc, text)?.map(Val::Num))
 }
 
-/// `left`, `right` or a value.
+/// Reads `left`, `right` or a value.
 fn decision(alloc: Global, text: &[u8]) -> Result<Option<Decide>, AllocError>
     ensures { IfOk result (λ made. made ≡ decision text.now) }
 {
@@ -180,7 +183,7 @@ fn decision(alloc: Global, text: &[u8]) -> Result<Option<Decide>, AllocError>
     Ok(script_value(alloc, text)?.map(Decide::Give))
 }
 
-/// `steps N`, N up to 10,000.
+/// Returns the line `steps N`, if N is at most 10,000.
 fn steps_line<'a>(text: &[u8]) -> Option<Line<'a>>
     ensures { option_map line_of result ≡ option_map steps (natural 10001 text.now) }
 {
@@ -190,9 +193,10 @@ fn steps_line<'a>(text: &[u8]) -> Option<Line<'a>>
     }
 }
 
-/// `decide left`, `decide right` or `decide VALUE`.
+/// Returns the line `decide left`, `decide right` or `decide VALUE`.
 fn decide_line<'a>(alloc: Global, text: &[u8]) -> Result<Option<Line<'a>>, AllocError>
-    ensures { IfOk result (λ line. option_map line_of line ≡ option_map decide (decision text.now)) }
+    ensures { IfOk result (λ line. option_map line_of line
+        ≡ option_map decide (decision text.now)) }
 {
     match decision(alloc, text)? {
         Some(made) => Ok(Some(Line::Decide(made))),
@@ -200,7 +204,7 @@ fn decide_line<'a>(alloc: Global, text: &[u8]) -> Result<Option<Line<'a>>, Alloc
     }
 }
 
-/// The line of a word and a text behind it.
+/// Returns the line of two parts.
 fn pair_line<'a>(alloc: Global, word: &[u8], text: &[u8]) -> Result<Option<Line<'a>>, AllocError>
     ensures { IfOk result (λ line. option_map line_of line ≡ pair_line word.now text.now) }
 {
@@ -213,14 +217,15 @@ fn pair_line<'a>(alloc: Global, word: &[u8], text: &[u8]) -> Result<Option<Line<
     Ok(None)
 }
 
-/// The line of a word and two texts behind it.
+/// Returns the line of three parts.
 fn triple_line<'a>(
     alloc: Global,
     word: &[u8],
     name: &'a [u8],
     text: &[u8],
 ) -> Result<Option<Line<'a>>, AllocError>
-    ensures { IfOk result (λ line. option_map line_of line ≡ triple_line word.now name.now text.now) }
+    ensures { IfOk result (λ line. option_map line_of line
+        ≡ triple_line word.now name.now text.now) }
 {
     if word != b"set".as_slice() {
         return Ok(None);
@@ -231,9 +236,10 @@ fn triple_line<'a>(
     }
 }
 
-/// The line of these parts.
+/// Returns the line of these parts.
 fn line_of_parts<'a>(alloc: Global, parts: &[&'a [u8]]) -> Result<Option<Line<'a>>, AllocError>
-    ensures { IfOk result (λ line. option_map line_of line ≡ line_of_parts (map (λ part. part.now) parts.now)) }
+    ensures { IfOk result (λ line. option_map line_of line
+        ≡ line_of_parts (map (λ part. part.now) parts.now)) }
 {
     match parts {
         [word, text] => pair_line(alloc, word, text),
@@ -242,7 +248,7 @@ fn line_of_parts<'a>(alloc: Global, parts: &[&'a [u8]]) -> Result<Option<Line<'a
     }
 }
 
-/// What a line says, where it is of one of the forms.
+/// Returns the line with this text, or `None` if the text has none of the forms.
 pub(crate) fn said<'a>(alloc: Global, line: &'a [u8]) -> Result<Option<Line<'a>>, AllocError>
     ensures { IfOk result (λ said_line. option_map line_of said_line ≡ said line.now) }
 {

@@ -1,4 +1,4 @@
-//! Why reading a script stops.
+//! Errors of reading scripts.
 
 ghost use Rattle.run_script.specs.declared.stops.ScriptStop.TheVariants.{Memory};
 ghost use Rattle.std.specs.Prelude.{◌≡◌};
@@ -6,10 +6,11 @@ ghost use Rattle.std.specs.Prelude.{◌≡◌};
 use std::alloc::AllocError;
 use thiserror::Error;
 
-/// Why a text gives no script.
+/// Why a text yields no script.
 #[derive(Debug, Drop, Error)]
 pub enum ScriptStop {
-    /// No script has this text; the first line with which none goes on, counted from 1.
+    /// No script has this text. The number is that of the first line, from 1, that no script has
+    /// after the lines before it.
     #[error("line {0} is at fault")]
     Fault(u32),
     /// Memory ran out.

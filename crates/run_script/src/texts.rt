@@ -1,7 +1,8 @@
-//! The texts of what a run by a script comes to.
+//! The texts of the results of a run under a script.
 
 ghost use Rattle.heyvl_num.specs.ExtendedNumbers.{value_of};
-ghost use Rattle.run_script.specs.Texts.{script_fault_text, stop_text, sum_text, sums_text, turns_text, violation_text, within_text};
+ghost use Rattle.run_script.specs.Texts.{script_fault_text, stop_text, sum_text, sums_text};
+ghost use Rattle.run_script.specs.Texts.{turns_text, violation_text, within_text};
 ghost use Rattle.run_unroller.specs.Unrolling.{totals_of};
 ghost use Rattle.std.specs.Prelude.{IfOk, OnOk, codes, decimal, ◌++◌, ◌≡◌};
 ghost use Rattle.number_texts.specs.ValueTexts.{fraction_text};
@@ -21,7 +22,9 @@ fn write_sum(text: &mut Vec<u8>, sum: Ext) -> Result<(), AllocError>
 }
 
 fn write_loop(text: &mut Vec<u8>, number: u64, turns: Frac) -> Result<(), AllocError>
-    ensures { OnOk result (text.new.items ≡ text.old.items ++ (codes "loop " ++ decimal number ++ codes " turns " ++ fraction_text turns ++ codes "\n")) }
+    ensures { OnOk result (text.new.items ≡ text.old.items
+        ++ (codes "loop " ++ decimal number ++ codes " turns " ++ fraction_text turns
+        ++ codes "\n")) }
 {
     text.extend_from_slice(b"loop ")?;
     write_number(text, number)?;
@@ -41,7 +44,8 @@ fn write_turns(text: &mut Vec<u8>, turns: &[Frac]) -> Result<(), AllocError>
     Ok(())
 }
 
-/// The sums of a run, a line for each: the post, the rewards, the weight that is still running, and the turns of each loop.
+/// Returns the sums of a run, a line for each: the expected post, the expected reward, the mass not
+/// yet terminated (`running`), and the expected iterations of each loop (`turns`).
 pub fn sums_text(alloc: Global, sums: &Sums) -> Result<Vec<u8>, AllocError>
     ensures { IfOk result (λ text. text.items ≡ sums_text (totals_of sums.now)) }
 {
@@ -57,7 +61,7 @@ pub fn sums_text(alloc: Global, sums: &Sums) -> Result<Vec<u8>, AllocError>
     Ok(text)
 }
 
-/// The line on a script with a fault.
+/// Returns the line on an invalid script, whose first invalid line is `line`.
 pub fn script_fault_text(alloc: Global, line: u32) -> Result<Vec<u8>, AllocError>
     ensures { IfOk result (λ text. text.items ≡ script_fault_text line) }
 {
@@ -68,7 +72,8 @@ pub fn script_fault_text(alloc: Global, line: u32) -> Result<Vec<u8>, AllocError
     Ok(text)
 }
 
-/// The line on a run that was stopped at this step. The cause is `runs`, `values` or `bits`.
+/// Returns the line on a run that was stopped at this step. The cause is `runs`, `values` or
+/// `bits`.
 pub fn stop_text(alloc: Global, cause: &'static [u8], step: u32) -> Result<Vec<u8>, AllocError>
     ensures { IfOk result (λ text. text.items ≡ stop_text cause.now step) }
 {
@@ -81,7 +86,7 @@ pub fn stop_text(alloc: Global, cause: &'static [u8], step: u32) -> Result<Vec<u
     Ok(text)
 }
 
-/// The line on a procedure of which the runs' sum passes its pre at this step.
+/// Returns the line on a procedure whose runs of `step` steps exceed its pre.
 pub fn violation_text(
     alloc: Global,
     name: &[u8],
@@ -89,7 +94,8 @@ pub fn violation_text(
     sum: Ext,
     pre: Ext,
 ) -> Result<Vec<u8>, AllocError>
-    ensures { IfOk result (λ text. text.items ≡ violation_text name.now step (value_of sum) (value_of pre)) }
+    ensures { IfOk result (λ text. text.items
+        ≡ violation_text name.now step (value_of sum) (value_of pre)) }
 {
     let mut text = Vec::new(alloc);
     text.extend_from_slice(name)?;
@@ -103,7 +109,7 @@ pub fn violation_text(
     Ok(text)
 }
 
-/// The line on a procedure of which the runs' sum doesn't pass its pre in so many steps.
+/// Returns the line on a procedure whose runs do not exceed its pre within `steps` steps.
 pub fn within_text(
     alloc: Global,
     name: &[u8],
@@ -111,7 +117,8 @@ pub fn within_text(
     steps: u32,
     sum: Ext,
 ) -> Result<Vec<u8>, AllocError>
-    ensures { IfOk result (λ text. text.items ≡ within_text name.now (value_of pre) steps (value_of sum)) }
+    ensures { IfOk result (λ text. text.items
+        ≡ within_text name.now (value_of pre) steps (value_of sum)) }
 {
     let mut text = Vec::new(alloc);
     text.extend_from_slice(name)?;

@@ -1,4 +1,5 @@
--- A plain program that reads a script: it answers with the script that the bytes spell, or with their first fault.
+-- A plain reader of scripts: its result is the script that the bytes spell, or their first invalid
+-- line.
 use Rattle.run_script.proofs.FirstFaults.{fault_at_first, fault_behind}
 use Rattle.run_script.proofs.NextLines.{begins, goes_on}
 use Rattle.run_script.specs.Lines.{said, text_lines, without_last_feed}
@@ -8,7 +9,7 @@ use Rattle.std.proofs.Common.{List, None, Option, Some, [], append_assoc, arith,
 use Rattle.std.proofs.lemmas.List.{append-nil}
 use Rattle.std.proofs.lemmas.List.Splits.{length-slice_split}
 
--- A script, or the number of the first line at fault.
+-- A script, or the number of the first invalid line.
 pub data Reading : Type 0 where
   says : Script → Reading
   stops : ℕ → Reading
@@ -17,7 +18,8 @@ abbrev pub or_stop : ℕ → Option Script → (Script → Reading) → Reading
 or_stop number None more = Reading.stops number
 or_stop number (Some s) more = more s
 
--- The lines behind those of a script, the first of them with this number.
+-- The result of reading `lines` after those of the script `s`. The first of them has the number
+-- `number`.
 abbrev pub read_behind : Known → ℕ → Script → List (List ℕ) → Reading
 read_behind known number s [] = Reading.says s
 read_behind known number s (line ∷ more) = or_stop number (gone_on known s (said line)) (λ t. read_behind known (number + 1) t more)
@@ -50,6 +52,6 @@ lines_right known (line ∷ more) some = pick (begun (said line)) refl
     pick None k = fault_at_first known line more k
     pick (Some s) k = behind_right known (line ∷ more) (line ∷ []) more 2 s (begins known s line k) refl refl
 
--- It is right about all bytes.
+-- The plain reader is right for all bytes.
 pub read_right : (known : Known) (bytes : List ℕ) → IsRight known (text_lines bytes) (read known bytes)
 read_right known bytes = let some = length-slice_split (λ b. b == 10) (without_last_feed bytes) in lines_right known (text_lines bytes) (omega (arith, some))

@@ -52,6 +52,5 @@ start_values_typed settings [] shown = refl
 start_values_typed settings (x ∷ xs) [] = (over_has x.ty (find (λ s. bytes_eq x.name s.name) settings) None, start_values_typed settings xs [])
 start_values_typed settings (x ∷ xs) (v ∷ vs) = (over_has x.ty (find (λ s. bytes_eq x.name s.name) settings) (Some v), start_values_typed settings xs vs)
 
--- So it has where the values of a state are shown.
 pub start_over_typed : (p : TypedProcedure) (settings : List Setting) (shown : List Val) → IsState p (start_state_over p settings shown)
 start_over_typed p settings shown = start_values_typed settings (variables p) shown

@@ -1,4 +1,4 @@
--- Bytes spell one script, or have one first fault.
+-- Bytes spell one script, or have one first invalid line.
 use Rattle.run_script.proofs.FirstFaults.{no_fault, same_fault}
 use Rattle.run_script.proofs.NextLines.{same_lines}
 use Rattle.run_script.specs.Lines.{text_lines}

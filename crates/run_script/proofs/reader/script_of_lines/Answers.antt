@@ -10,7 +10,7 @@ use Rattle.std.specs.Borrow.{Bor}
 abbrev none : Bor (List ℕ)
 none = record { ref_ptr = (0, 0); now = [] }
 
--- How many lines there are behind the first.
+-- -
 few : (lines : List (Bor (List ℕ))) (k : ℕ) → k < length (take (length lines - 1) (drop 1 lines)) → k + 1 < length lines
 few lines k lt = let same = ap length (take_rest lines 1) in let size = length-drop 1 lines in omega (arith, lt, same, size)
 

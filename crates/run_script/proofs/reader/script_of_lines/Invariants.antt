@@ -4,7 +4,6 @@ use Rattle.run_script.specs.Scripts.{AreLinesOf}
 use Rattle.run_script.specs.internal.ReadLines.{bytes_of}
 use Rattle.std.proofs.Common.{take, ◌+◌, ◌≡◌}
 
--- The script is that of the lines up to this one.
 abbrev pub invariant-loop-line : goal.invariant-loop-line
 invariant-loop-line l = record {
   number : l.number ≡ l.line-index + 2;
