@@ -1,4 +1,4 @@
--- What is reported of a generated text: the answers on it, and their summary.
+-- The answers on a generated text, and their summary. This project's own.
 use Rattle.generated_files.specs.Texts.{generated_text}
 use Rattle.command_rules.specs.Summaries.{summary}
 use Rattle.goal_answers.specs.declared.named_goals.NamedGoal.{NamedGoal}
@@ -11,8 +11,9 @@ use Rattle.verdict_report.specs.declared.answers.Answer.{Answer}
 use Rattle.verify_core.specs.AnsweredProcedures.{AreAnswered}
 use Rattle.verify_core.specs.Headline.{IsHeadline}
 
--- The generated text of n lines spells a file of n procedures without a fault; the answers are those of its goals and keep what the
--- headline promises of it, and the text is the summary of these very answers.
+-- The generated text of `n` lines spells a file of `n` procedures without an error. `answers` are
+-- those by the goals of this file and keep the promises of the headline, and `text` is their
+-- summary.
 pub record IsSummary (n : ℕ) (answers : List Answer) (text : List ℕ) : Type 0 where
   pub file : List Procedure
   pub count : length file ≡ n

@@ -1,4 +1,4 @@
--- The reply that the program holds.
+-- Replies as the program holds them. This project's own.
 use Rattle.command_rules.specs.Messages.{Reply}
 use Rattle.command_rules.specs.declared.responses.Response.{Response}
 use Rattle.command_rules.specs.declared.responses.Text.TheVariants.{Fixed, Made}
@@ -10,6 +10,11 @@ abbrev pub text_bytes : Text → List ℕ
 text_bytes (Fixed bytes) = bytes.now
 text_bytes (Made bytes) = bytes.items
 
--- The response as a reply.
+-- The response of the program, read as a reply.
 abbrev pub reply_of : Response → Reply
-reply_of r = record { fault = r.fault; answers = r.answers.items; output = text_bytes r.text; status = r.status }
+reply_of r = record {
+  fault = r.fault;
+  answers = r.answers.items;
+  output = text_bytes r.text;
+  status = r.status;
+}

@@ -1,4 +1,4 @@
--- What commands write of a name and of a procedure. This project's own.
+-- Lines about names and procedures. This project's own.
 use Rattle.std.specs.Prelude.{List, codes, ◌++◌, ℕ}
 
 -- The line on a name that no procedure has.

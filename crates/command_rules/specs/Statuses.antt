@@ -1,4 +1,4 @@
--- The exit statuses.
+-- The exit statuses. This project's own.
 use Rattle.command_rules.specs.declared.faults.Fault.TheVariants as faults
 use Rattle.command_rules.specs.declared.faults.Fault.{Fault}
 use Rattle.std.specs.List.{list_any}
@@ -10,9 +10,9 @@ use Rattle.verdict_report.specs.declared.answers.RankVerdict.{RankVerdict}
 use Rattle.verdict_report.specs.declared.answers.Verdict.TheVariants as verdict
 use Rattle.verdict_report.specs.declared.answers.Verdict.{Verdict}
 
--- ---- Of a fault
+-- ---- Statuses of faults
 
--- The exit status that goes with a fault, where no answers are counted.
+-- The exit status of a fault, for a reply without answers.
 abbrev pub fault_status : Fault → ℕ
 fault_status faults.Nothing = 0
 fault_status faults.Usage = 4
@@ -28,9 +28,9 @@ fault_status (faults.Run stopped) = 8
 fault_status faults.Write = 6
 fault_status faults.Memory = 7
 
--- ---- Of answers
+-- ---- Statuses of answers
 
--- The verdict says that a bound is false.
+-- Whether the verdict is that a goal of the bound is false.
 abbrev pub is_refuted : Verdict → Bool
 is_refuted verdict.Verified = false
 is_refuted (verdict.Valid reason) = false
@@ -40,14 +40,16 @@ is_refuted (verdict.Unknown id cause) = false
 is_refuted verdict.NoBody = false
 is_refuted (verdict.Unchecked id miss) = false
 
--- A ranking is false.
+-- Whether the verdict is that the goal of the ranking is false.
 abbrev pub is_rank_refuted : RankVerdict → Bool
 is_rank_refuted rank.Ranked = false
 is_rank_refuted (rank.NotRanked s) = true
 is_rank_refuted (rank.Unknown cause) = false
 is_rank_refuted (rank.Unchecked miss) = false
 
--- The verdict leaves a bound open.
+-- Whether the verdict leaves the bound open: a goal is undecided (`Unknown`) or has no accepted
+-- certificate (`Unchecked`), or the procedure reaches one whose goals are not all proved or that is
+-- no program (`Conditional`). `Valid` and `NoBody` leave nothing open.
 abbrev pub is_open : Verdict → Bool
 is_open verdict.Verified = false
 is_open (verdict.Valid reason) = false
@@ -57,21 +59,26 @@ is_open (verdict.Unknown id cause) = true
 is_open verdict.NoBody = false
 is_open (verdict.Unchecked id miss) = true
 
--- A ranking is left open.
+-- Whether the verdict leaves the ranking open: its goal is undecided (`Unknown`) or has no accepted
+-- certificate (`Unchecked`).
 abbrev pub is_rank_open : RankVerdict → Bool
 is_rank_open rank.Ranked = false
 is_rank_open (rank.NotRanked s) = false
 is_rank_open (rank.Unknown cause) = true
 is_rank_open (rank.Unchecked miss) = true
 
--- The bound of a procedure or one of its rankings is false.
+-- Whether a goal of the procedure's bound or of one of its rankings is false.
 abbrev pub refutes : Answer → Bool
-refutes a = is_refuted a.verdict || list_any (λ (l : LoopAnswer). is_rank_refuted l.rank) a.loops.items
+refutes a = is_refuted a.verdict
+    || list_any (λ (l : LoopAnswer). is_rank_refuted l.rank) a.loops.items
 
--- The bound of a procedure or one of its rankings is left open.
+-- Whether the procedure's bound or one of its rankings is left open.
 abbrev pub leaves_open : Answer → Bool
-leaves_open a = is_open a.verdict || list_any (λ (l : LoopAnswer). is_rank_open l.rank) a.loops.items
+leaves_open a = is_open a.verdict
+    || list_any (λ (l : LoopAnswer). is_rank_open l.rank) a.loops.items
 
--- 1 where some bound or ranking is false, else 2 where one is left open, else 0.
+-- 1 if some answer reports a goal as false, otherwise 2 if some answer leaves a bound or a ranking
+-- open, otherwise 0. For a file with the verdicts `Verified` and `Conditional` it is 2.
 abbrev pub answers_status : List Answer → ℕ
-answers_status answers = if list_any refutes answers then 1 else if list_any leaves_open answers then 2 else 0
+answers_status answers = if list_any refutes answers then 1 else if list_any leaves_open answers
+    then 2 else 0

@@ -1,12 +1,12 @@
--- The summary of the answers on a generated text: how many bounds are verified, how many not verified, and how many neither. The text is
--- this project's own.
+-- The summary of the answers on a generated text: the numbers of bounds that are verified, not
+-- verified, and neither. This project's own.
 use Rattle.std.specs.List.{count_by}
 use Rattle.std.specs.Prelude.{Bool, List, codes, decimal, false, true, ◌++◌, ℕ}
 use Rattle.verdict_report.specs.declared.answers.Answer.{Answer}
 use Rattle.verdict_report.specs.declared.answers.Verdict.TheVariants as verdicts
 use Rattle.verdict_report.specs.declared.answers.Verdict.{Verdict}
 
--- The bound is verified.
+-- Whether the bound is verified.
 abbrev pub is_verified : Verdict → Bool
 is_verified verdicts.Verified = true
 is_verified (verdicts.Valid reason) = false
@@ -16,7 +16,7 @@ is_verified (verdicts.Unknown goal cause) = false
 is_verified verdicts.NoBody = false
 is_verified (verdicts.Unchecked goal miss) = false
 
--- The bound is not verified: it is false in a state.
+-- Whether the bound is not verified: it is false in a state.
 abbrev pub is_not_verified : Verdict → Bool
 is_not_verified verdicts.Verified = false
 is_not_verified (verdicts.Valid reason) = false
@@ -26,7 +26,7 @@ is_not_verified (verdicts.Unknown goal cause) = false
 is_not_verified verdicts.NoBody = false
 is_not_verified (verdicts.Unchecked goal miss) = false
 
--- Every other verdict.
+-- Whether the verdict is neither `Verified` nor `NotVerified`.
 abbrev pub is_other : Verdict → Bool
 is_other verdicts.Verified = false
 is_other (verdicts.Valid reason) = true
@@ -36,7 +36,7 @@ is_other (verdicts.Unknown goal cause) = true
 is_other verdicts.NoBody = true
 is_other (verdicts.Unchecked goal miss) = true
 
--- How many answers have such a verdict.
+-- The number of answers whose verdict passes `test`.
 abbrev pub how_many : (Verdict → Bool) → List Answer → ℕ
 how_many test answers = count_by (λ (a : Answer). test a.verdict) answers
 

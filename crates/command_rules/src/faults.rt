@@ -1,35 +1,36 @@
-//! Why a command doesn't do what its words ask for.
+//! The reasons why a command does not do what its arguments ask for.
 
 use heyvl_places::Span;
 use run_unroller::Unrolled;
 
-/// Why a call didn't do what its words ask for, or `Nothing`. A `u8` is the number of a file among those that the words name, from 0.
+/// Why a call did not do what its arguments ask for, or `Nothing`. A `u8` is the number of a file
+/// of the arguments, from 0.
 #[derive(Debug, Drop)]
 pub enum Fault {
-    /// It did what its words ask for.
+    /// The call did what its arguments ask for.
     Nothing,
-    /// The words are no command.
+    /// The arguments are not a valid command.
     Usage,
     /// The source failed while the file was read.
     Read(u8),
     /// The file has more than 1,048,576 bytes.
     TooLong(u8),
-    /// The file has the fault of this number, which stands there.
+    /// The file has the error of this number, at this place.
     Source(u8, Span),
-    /// The first line of the certificates that breaks the rules, from 1.
+    /// The certificates are invalid; the first invalid line, from 1.
     Cert(u32),
-    /// The first line of the script that breaks the rules, from 1.
+    /// The script is invalid; the first invalid line, from 1.
     Script(u32),
-    /// The file has no procedure of this name.
+    /// No procedure of the file has the name of the arguments.
     NoProcedure,
-    /// The procedures aren't of the shape that the command asks for.
+    /// The procedures do not have the shape that the command requires.
     Shape,
-    /// The procedure of this number, which the run would reach, is no program.
+    /// The procedure of this number is no program, and the run would reach it.
     NotProgram(u32),
-    /// The run was stopped: what unrolling answered in place of sums.
+    /// The run was stopped, with this result in place of sums.
     Run(Unrolled),
-    /// The sink failed. It replaces every other fault.
+    /// The sink failed. This replaces every other fault.
     Write,
-    /// There is no memory for the work.
+    /// Memory ran out.
     Memory,
 }

@@ -1,4 +1,6 @@
-//! The commands: what each says of the bytes of its files, as definitions; with replies and their statuses.
+//! The commands: definitions of their replies to the bytes of their files, and exit statuses.
+//!
+//! `AllocError` means that memory ran out.
 #![tactic(auto)]
 
 mod faults;

@@ -1,4 +1,4 @@
-//! The reply to a call, before it is written.
+//! Replies, before they are written.
 
 ghost use Rattle.command_rules.specs.Messages.{answered, message, stated};
 ghost use Rattle.command_rules.specs.Responses.{reply_of, text_bytes};
@@ -11,7 +11,7 @@ use spelled_files::{SourceStop, source_fault_line};
 use std::alloc::{AllocError, Global};
 use verdict_report::Answer;
 
-/// What is written: a fixed text, or one that was made.
+/// A text to write: a constant one, or one that was made.
 #[derive(Drop)]
 pub enum Text {
     Fixed(&'static [u8]),
@@ -19,7 +19,7 @@ pub enum Text {
 }
 
 impl Text {
-    /// The bytes of the text.
+    /// Returns the bytes of the text.
     pub fn as_bytes(&self) -> &[u8]
         ensures { result.now ≡ text_bytes self.now }
     {
@@ -40,7 +40,7 @@ pub struct Response {
     pub status: u8,
 }
 
-/// A text in place of answers, with the status that goes with the fault.
+/// Returns a reply with a text in place of answers, and with the status of `fault`.
 pub fn message(alloc: Global, fault: Fault, text: Text) -> Response
     ensures { reply_of result ≡ message fault (text_bytes text) }
 {
@@ -52,7 +52,7 @@ pub fn message(alloc: Global, fault: Fault, text: Text) -> Response
     }
 }
 
-/// A text with answers.
+/// Returns a reply with a text and answers, and with the status of the answers.
 pub fn answered(answers: Vec<Answer>, text: Vec<u8>) -> Response
     ensures { reply_of result ≡ answered answers.items text.items }
 {
@@ -64,7 +64,7 @@ pub fn answered(answers: Vec<Answer>, text: Vec<u8>) -> Response
     }
 }
 
-/// A text without answers, with a status of its own.
+/// Returns a reply with a text and a status, without answers.
 pub fn stated(alloc: Global, status: u8, text: Vec<u8>) -> Response
     ensures { reply_of result ≡ stated status text.items }
 {
@@ -76,7 +76,7 @@ pub fn stated(alloc: Global, status: u8, text: Vec<u8>) -> Response
     }
 }
 
-/// What is said of bytes that are refused as a file.
+/// Returns the reply to bytes that are refused as a file.
 pub fn refused(alloc: Global, bytes: &[u8], stop: SourceStop) -> Result<Response, AllocError>
     requires { length bytes.now < 2 ^ 31 }
     ensures { IfOk result (λ response. IsRefusal bytes.now stop (reply_of response)) }

@@ -1,6 +1,7 @@
 //! The exit statuses.
 
-ghost use Rattle.command_rules.specs.Statuses.{answers_status, fault_status, is_open, is_rank_open, is_rank_refuted, is_refuted, leaves_open, refutes};
+ghost use Rattle.command_rules.specs.Statuses.{answers_status, fault_status, is_open, is_rank_open};
+ghost use Rattle.command_rules.specs.Statuses.{is_rank_refuted, is_refuted, leaves_open, refutes};
 ghost use Rattle.std.specs.List.{list_any};
 ghost use Rattle.std.specs.Prelude.{◌≡◌};
 ghost use Rattle.verdict_report.specs.declared.answers.LoopAnswer.{LoopAnswer};
@@ -8,7 +9,7 @@ ghost use Rattle.verdict_report.specs.declared.answers.LoopAnswer.{LoopAnswer};
 use crate::Fault;
 use verdict_report::{Answer, LoopAnswer, RankVerdict, Verdict};
 
-/// The exit status that goes with a fault, where no answers are counted.
+/// Returns the exit status of a fault, for a reply without answers.
 pub fn fault_status(fault: &Fault) -> u8
     ensures { result ≡ fault_status fault.now }
 {
@@ -88,7 +89,7 @@ fn some_leaves_open(answers: &[Answer]) -> bool
     answers.iter().any(|answer| leaves_open(answer))
 }
 
-/// 1 where some bound or ranking is false, else 2 where one is left open, else 0.
+/// Returns 1 if some bound or ranking is false, otherwise 2 if one is open, otherwise 0.
 pub(crate) fn answers_status(answers: &[Answer]) -> u8
     ensures { result ≡ answers_status answers.now }
 {

@@ -1,4 +1,4 @@
--- `certify FILE`: the certificates of a file's proved goals.
+-- `certify FILE`: the certificates of a file's proved goals. This project's own.
 use Rattle.cert_text.specs.Certificates.{certificates_of}
 use Rattle.cert_text.specs.Texts.{text_of}
 use Rattle.goal_answers.specs.declared.named_goals.NamedGoal.{NamedGoal}
@@ -13,8 +13,9 @@ use Rattle.std.specs.Prelude.{List, None, ◌≡◌, ℕ}
 use Rattle.verify_core.specs.AnsweredProcedures.{AreAnswered}
 use Rattle.verify_core.specs.Headline.{IsHeadline}
 
--- The certificates of the proved goals of a file that has become these typed procedures: the answers are those of `verify`, they
--- keep what the headline promises, and the output is the text of the certificates that come with these very answers.
+-- The reply with the certificates of a file whose typed procedures are `file`. Its answers are
+-- those of `verify` and keep the promises of the headline, and its output is the text of the
+-- certificates that belong to these answers.
 pub record IsCertification (file : List TypedProcedure) (reply : Reply) : Type 0 where
   pub made : List NamedGoal
   pub certs : List GoalCert
@@ -22,11 +23,12 @@ pub record IsCertification (file : List TypedProcedure) (reply : Reply) : Type 0
   pub headline : IsHeadline file reply.answers
   pub is_reply : reply ≡ answered reply.answers (text_of (certificates_of certs))
 
--- What `certify` says of a file with these bytes.
+-- `IsCertifyReply bytes reply`: `reply` is the reply of `certify` to a file with the bytes `bytes`.
 abbrev pub IsCertifyReply : List ℕ → Reply → Type 0
 IsCertifyReply bytes reply = IsTypedReply IsCertification bytes reply
 
--- Of bytes that spell a file without a fault `certify` writes the certificates.
+-- If `bytes` spell a file without an error, `certify` writes its certificates.
 abbrev pub FilesAreCertified : Type 0
-FilesAreCertified = (bytes : List ℕ) (file : List Procedure) (reply : Reply) → IsSource bytes file → first_fault file ≡ None → IsCertifyReply bytes reply
+FilesAreCertified = (bytes : List ℕ) (file : List Procedure) (reply : Reply) → IsSource bytes file
+    → first_fault file ≡ None → IsCertifyReply bytes reply
     → IsCertification (resolved file) reply × IsAnsweredWhole (resolved file) reply

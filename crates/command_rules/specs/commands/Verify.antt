@@ -1,4 +1,4 @@
--- `verify FILE`: the report on a file.
+-- `verify FILE`: the report on a file. This project's own.
 use Rattle.goal_answers.specs.declared.named_goals.NamedGoal.{NamedGoal}
 use Rattle.goal_answers.specs.declared.trees.GoalCert.{GoalCert}
 use Rattle.heyvl_acts.specs.Acts.{TypedProcedure}
@@ -12,8 +12,9 @@ use Rattle.verdict_report.specs.Reports.{report_text}
 use Rattle.verify_core.specs.AnsweredProcedures.{AreAnswered}
 use Rattle.verify_core.specs.Headline.{IsHeadline}
 
--- The report on a file with these bytes, which has become these typed procedures: the answers are those of their goals, they keep
--- what the headline promises, and the output is the text of these very answers.
+-- The report on a file with these bytes, whose typed procedures are `file`. Its answers are those
+-- by the file's goals and keep the promises of the headline, and its output is the text of these
+-- answers.
 pub record IsReport (bytes : List ℕ) (file : List TypedProcedure) (reply : Reply) : Type 0 where
   pub made : List NamedGoal
   pub certs : List GoalCert
@@ -21,11 +22,12 @@ pub record IsReport (bytes : List ℕ) (file : List TypedProcedure) (reply : Rep
   pub headline : IsHeadline file reply.answers
   pub is_reply : reply ≡ answered reply.answers (report_text bytes file reply.answers made)
 
--- What `verify` says of a file with these bytes.
+-- `IsVerifyReply bytes reply`: `reply` is the reply of `verify` to a file with the bytes `bytes`.
 abbrev pub IsVerifyReply : List ℕ → Reply → Type 0
 IsVerifyReply bytes reply = IsTypedReply (IsReport bytes) bytes reply
 
--- Of bytes that spell a file without a fault `verify` makes the report.
+-- If `bytes` spell a file without an error, `verify` makes the report.
 abbrev pub FilesAreVerified : Type 0
-FilesAreVerified = (bytes : List ℕ) (file : List Procedure) (reply : Reply) → IsSource bytes file → first_fault file ≡ None → IsVerifyReply bytes reply
+FilesAreVerified = (bytes : List ℕ) (file : List Procedure) (reply : Reply) → IsSource bytes file
+    → first_fault file ≡ None → IsVerifyReply bytes reply
     → IsReport bytes (resolved file) reply × IsAnsweredWhole (resolved file) reply
