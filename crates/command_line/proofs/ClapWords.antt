@@ -1,4 +1,4 @@
--- What `clap` makes of the words, by its own definitions.
+-- The arguments that `clap` accepts, and what it makes of them, by its definitions.
 use Rattle.clap.proofs.OnLiterals.{clap_on_literals}
 use Rattle.clap.specs.Faults.{entered_fault, level_fault, walk_fault}
 use Rattle.clap.specs.Kinds.{Kinds, or_else}
@@ -17,8 +17,7 @@ use Rattle.command_words.specs.Words.{AskFor, is_argument}
 use Rattle.command_words.specs.declared.requests.Settings.TheVariants.{Certify, Check, Gen, Omega, Pgcl, Print, Refute, Remainder, Run, Verify}
 use Rattle.command_words.specs.declared.requests.Settings.{Settings}
 
--- The names of the arguments of a command, in order: of one that has a file alone, of `run` and `refute`, of `omega` and `remainder`, of `check`
--- and of `gen`.
+-- The names of the arguments of each command.
 abbrev file_names : List Text
 file_names = codes "FILE" ∷ []
 
@@ -42,7 +41,7 @@ pub tool_is_free : is_simple_and_free tool ≡ true
 unfolding clap_on_literals
 tool_is_free = refl
 
--- A word that begins with something else than `-`.
+-- An argument that is not empty and does not begin with `-`.
 data IsPlain : Text → Type 0 where
   plain : (b : ℕ) (bs : List ℕ) → eqb b 45 ≡ false → IsPlain (b ∷ bs)
 
@@ -67,7 +66,7 @@ three_plain f p s h =
     let (second, last) = are_plain p (s ∷ []) more in
     (first, second, (are_plain s [] last).0)
 
--- ---- What is asked for is taken, for what it is
+-- ---- Valid arguments are accepted
 
 takes_file : (f : Text) → IsPlain f → (takes tool (codes "verify" ∷ f ∷ []) ≡ true) × (takes tool (codes "print" ∷ f ∷ []) ≡ true) × (takes tool (codes "certify" ∷ f ∷ []) ≡ true)
     × (takes tool (codes "pgcl" ∷ f ∷ []) ≡ true)
@@ -132,7 +131,7 @@ finds_asked (Omega f p q) h = let w = three_plain f p q h in (finds_three f p q 
 finds_asked (Remainder f p q) h = let w = three_plain f p q h in (finds_three f p q w.0 w.1 w.2).2
 finds_asked (Refute f p s) h = let w = three_plain f p s h in (finds_three f p s w.0 w.1 w.2).3
 
--- ---- Where a command is met, the words behind it go to it
+-- ---- The arguments after a command belong to it
 
 stopped_on : (rules : List Rule) (names : Names) (w : Walk) (name : Text) (seen more : List Text) → w.stopped ≡ Some (name, seen) →
     (fold (walked rules names) w more).stopped ≡ Some (name, seen ++ more)
@@ -142,7 +141,6 @@ stopped_on rules names w name seen (m ∷ more) h =
     stopped_on rules names (walked rules names w m) name (seen ++ m ∷ []) more (rw h refl)
     ∙ ap (λ (ts : List Text). Some (name, ts)) (append_assoc seen (m ∷ []) more)
 
--- The commands, with the names of their arguments.
 data IsCommand : Text → List Text → Type 0 where
   verify : IsCommand (codes "verify") file_names
   print : IsCommand (codes "print") file_names
@@ -189,7 +187,7 @@ walk_empty s names h words has below none = left_empty (walk_fault s names (walk
 below_empty : (s : Shape) (names : Names) (h : Held) (words : List Text) (has : Bool) (below : Kinds) → level_fault s names h words has below ≡ [] → below ≡ []
 below_empty s names h words has below none = left_empty below _ (right_empty (walk_fault s names (walk_from h) words) _ none)
 
--- A command of the tool, and what it finds wrong with the words behind it.
+-- A command of the program, and the errors of the arguments after it.
 leaf : Text → List Text → Shape
 leaf name names = built_leaf (inherited (built tool).top (command name names).top)
 
@@ -214,7 +212,7 @@ enters name names is more none =
     by name names remainder more inside = inside
     by name names refute more inside = inside
 
--- ---- A command refuses a word too few, and a word too many
+-- ---- A command refuses missing and further arguments
 
 wants_file : (name : Text) (words : List Text) → list_all is_argument words ≡ true → leaf_fault name file_names words ≡ [] → (f : Text) × (words ≡ f ∷ [])
 unfolding clap_on_literals leaf leaf_fault
@@ -298,7 +296,7 @@ wants_check name (f ∷ c ∷ x ∷ more) h none =
     extra : (f c x : Text) (more : List Text) → IsPlain f → IsPlain c → IsPlain x → walk_fault (leaf name check_names) [] (walk_from nothing_held) (f ∷ c ∷ x ∷ more) ≡ [] → ⊥
     extra f c x more (plain b bs h) (plain e es k) (plain i is l) none = let no = simp (h, k, l) at none in cc
 
--- ---- What is taken was asked for
+-- ---- Accepted arguments are valid
 
 no_words : fault_of tool [] ≡ [] → ⊥
 unfolding clap_on_literals
@@ -313,18 +311,15 @@ record Entry : Type 0 where
 abbrev entry : (word : Text) (names : List Text) → IsCommand word names → Entry
 entry word names is = record { word = word; names = names; is = is }
 
--- All of them.
 abbrev entries : List Entry
 entries =
     entry _ _ verify ∷ entry _ _ print ∷ entry _ _ run ∷ entry _ _ certify ∷ entry _ _ check ∷ entry _ _ generate ∷ entry _ _ pgcl ∷ entry _ _ omega_pair ∷ entry _ _ remainder
     ∷ entry _ _ refute ∷ []
 
--- The word is none of these.
 abbrev IsOther : Text → List Entry → Type 0
 IsOther word [] = Unit {0}
 IsOther word (e ∷ es) = (bytes_eq e.word word ≡ false) × IsOther word es
 
--- It is one of these, or none.
 data Chosen (word : Text) (es : List Entry) : Type 0 where
   is_one : (e : Entry) → bytes_eq e.word word ≡ true → Chosen word es
   is_other : IsOther word es → Chosen word es
@@ -338,7 +333,6 @@ chosen word (e ∷ es) = by (bytes_eq e.word word) refl (chosen word es)
     by false differs (is_one other same) = is_one other same
     by false differs (is_other others) = is_other (differs, others)
 
--- A first word that is no command is refused.
 other_word : (word : Text) (more : List Text) → IsPlain word → IsOther word entries → fault_of tool (word ∷ more) ≡ [] → ⊥
 unfolding clap_on_literals
 other_word word more (plain b bs h) (v, (p, (r, (c, (k, (g, (q, (o, (m, (f, end)))))))))) none =
@@ -346,7 +340,7 @@ other_word word more (plain b bs h) (v, (p, (r, (c, (k, (g, (q, (o, (m, (f, end)
     let no = simp (h, v, p, r, c, k, g, q, o, m, f) at walk_none in
     cc
 
--- The words are those of a command without numbers, or `gen` and one that may be an argument.
+-- The arguments are those of a command without numbers, or `gen` and an allowed argument.
 data Spell (words : List Text) : Type 0 where
   by_command : (s : Settings) → words ≡ words_of s → (request_of s).fits ≡ true → Spell words
   by_number : (w : Text) → words ≡ codes "gen" ∷ w ∷ [] → is_argument w ≡ true → Spell words
@@ -363,7 +357,6 @@ command_spells name names omega_pair rest h none = let (f, p, q, e) = wants_pair
 command_spells name names remainder rest h none = let (f, p, q, e) = wants_pair name rest h none in Spell.by_command (Remainder f p q) (ap (λ (ws : List Text). name ∷ ws) e) refl
 command_spells name names refute rest h none = let (f, p, s, e) = wants_run name rest h none in Spell.by_command (Refute f p s) (ap (λ (ws : List Text). name ∷ ws) e) refl
 
--- So does a word that is equal to a command's, with what is behind it.
 equal_spells : (name word : Text) (names : List Text) → IsCommand name names → bytes_eq name word ≡ true → (rest : List Text) → list_all is_argument rest ≡ true →
     fault_of tool (word ∷ rest) ≡ [] → Spell (word ∷ rest)
 equal_spells name word names is e rest h none =
@@ -379,7 +372,6 @@ words_spell : (words : List Text) → list_all is_argument words ≡ true → fa
 words_spell [] h none = absurd (no_words none)
 words_spell (word ∷ rest) h none = let (first, more) = are_plain word rest h in first_word word rest first more none (chosen word entries)
 
--- What is met where the words are taken.
 met_by : (words : List Text) (met : Option (Text × List Row)) → list_all is_argument words ≡ true → met ≡ subcommand_of tool words → Spell words → IsMet words met
 met_by words met h same (Spell.by_command s words_are fits) =
     let arguments = (are_plain (request_of s).form.word (arguments_of s) (subst (λ (ws : List Text). list_all is_argument ws ≡ true) words_are h)).1 in
@@ -392,7 +384,6 @@ met_by words met h same (Spell.by_number w words_are is) =
 pub met_of : (words : List Text) (met : Option (Text × List Row)) → list_all is_argument words ≡ true → fault_of tool words ≡ [] → met ≡ subcommand_of tool words → IsMet words met
 met_of words met h none same = met_by words met h same (words_spell words h none)
 
--- Words that ask for something may all be arguments.
 pub plain_asked : (words : List Text) (settings : Settings) → AskFor words settings → list_all is_argument words ≡ true
 plain_asked words settings asked = ap (λ (ws : List Text). list_all is_argument ws) asked.words_are ∙ plain_words settings asked.arguments
   where

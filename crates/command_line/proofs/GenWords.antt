@@ -1,4 +1,4 @@
--- What the words of `gen` ask for, once they were met.
+-- The command that `gen` and its argument ask for.
 use Rattle.clap.specs.Words.{Row, Text, first_of}
 use Rattle.command_words.specs.LineCounts.{is_line_count}
 use Rattle.command_words.specs.Requests.{request_of}
@@ -19,7 +19,6 @@ few_lines n h = grind (arith, nat_tests)
 opposite : (b : Bool) → b ≡ true → b ≡ false → ⊥
 opposite b h g = cc
 
--- Another word than `gen`.
 differ : (word : Text) → bytes_eq (codes "gen") word ≡ false → codes "gen" ≡ word → ⊥
 differ word other same = opposite (bytes_eq (codes "gen") word) ((bytes_eq-Decides (codes "gen") word).1 same) other
 
@@ -35,7 +34,6 @@ abbrev value_of : Option (Text × List (Option Text)) → Option Text
 value_of None = None
 value_of (Some met) = front met.1
 
--- The number that was read is the one that was found.
 read_is : (n : ℕ) (word : Text) (r : Result Settings SettingsStop) → is_line_count n ≡ true → word ≡ decimal n → IsGenRead word r → MatchResult r (λ found. found ≡ Gen n) (λ stop. IsMemory stop)
 read_is n word (Ok (Gen m)) fits is asks = ap Gen (decimal_injective m n (few_lines m asks.fits) (few_lines n fits) (sym asks.written ∙ is))
 read_is n word (Ok (Verify f)) fits is read = absurd read

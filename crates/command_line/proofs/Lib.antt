@@ -1,3 +1,4 @@
 mod ClapWords
+mod Examples
 mod GenWords
 mod Words

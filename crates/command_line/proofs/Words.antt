@@ -1,4 +1,4 @@
--- The words that ask for lines.
+-- The argument of `gen` as a number of lines.
 use Rattle.command_words.specs.LineCounts.{AsksFor, is_line_count}
 use Rattle.std.proofs.Common.{List, Ok, Result, arith, true, ◌≡◌, ◌≤◌, ℕ}
 use Rattle.std.proofs.lemmas.Bool.Decides.{nat_tests}
@@ -11,7 +11,6 @@ least n h = grind (arith, nat_tests)
 most : (n : ℕ) → is_line_count n ≡ true → n ≤ 1024
 most n h = grind (arith, nat_tests)
 
--- A number of lines and the bounds that it keeps.
 pub record Within (n : ℕ) : Type 0 where
   pub least : 1 ≤ n
   pub most : n ≤ 1024
@@ -19,6 +18,5 @@ pub record Within (n : ℕ) : Type 0 where
 pub within : (n : ℕ) → is_line_count n ≡ true → Within n
 within n h = record { least = least n h; most = most n h }
 
--- It is what its word is read as.
 pub parsed : {E : Type 0} (n : ℕ) (word : List ℕ) (r : Result ℕ E) → AsksFor n word → ParsesUnsigned 32 10 word r → r ≡ Ok n
 parsed n word r asks read = let h = most n asks.fits in parse-decimal 32 n word r (omega arith) (omega arith) asks.written read

@@ -1,9 +1,11 @@
-//! The commands and their words.
+//! The commands and their arguments.
 
-ghost use Rattle.clap.specs.Words.{app_of, first_of, found_of, rule_of, rows_of, subcommand_rows_of, with_subcommand};
+ghost use Rattle.clap.specs.Words.{app_of, first_of, found_of, rule_of, rows_of};
+ghost use Rattle.clap.specs.Words.{subcommand_rows_of, with_subcommand};
 ghost use Rattle.clap.specs.declared.builder.command.Command.TheViews.{out-Command};
 ghost use Rattle.std.specs.List.{list_all};
-ghost use Rattle.std.specs.Prelude.{IfErr, IfOk, List, MatchResult, Some, false, map, string_bytes, true, ◌≡◌, ℕ};
+ghost use Rattle.std.specs.Prelude.{IfErr, IfOk, List, MatchResult, Some, false, map, string_bytes};
+ghost use Rattle.std.specs.Prelude.{true, ◌≡◌, ℕ};
 ghost use Rattle.command_line.specs.internal.CommandLine.{argument, bare_tool, command, tool};
 ghost use Rattle.command_line.specs.internal.Met.{IsFound, IsGenFound, IsGenRead, IsMemory, IsMet};
 ghost use Rattle.command_words.specs.Requests.{request_of};
@@ -16,7 +18,7 @@ use clap::{Arg, ArgAction, ArgMatches, Command};
 use command_words::{Settings, SettingsStop, Word};
 use std::alloc::{AllocError, Global};
 
-/// What is written where the words are no command.
+/// The line that is written if the arguments are not a valid command.
 pub const USAGE: &[u8] =
     b"usage: caesar verify FILE | print FILE | run FILE PROC SCRIPT | certify FILE | check FILE CERT | gen N | pgcl FILE | omega FILE PROC NAME | remainder FILE PROC NAME | refute FILE PROC SCRIPT\n";
 
@@ -35,7 +37,7 @@ fn are_arguments(words: &[String]) -> bool
     words.iter().all(|word| is_argument(word.as_str()))
 }
 
-/// An argument of this name: it has one value, and is not left out.
+/// Returns an argument of `clap` with this name, which has one value and is required.
 fn argument<'a>(alloc: Global, name: &'a str) -> Arg<'a>
     ensures rule { rule_of result ≡ argument name.entry.now }
     ensures local { result.global ≡ false }
@@ -43,13 +45,15 @@ fn argument<'a>(alloc: Global, name: &'a str) -> Arg<'a>
     Arg::new(alloc, name).action(ArgAction::Set).required(true)
 }
 
-/// A command that has arguments of these names, in order.
+/// Returns a command of `clap` with arguments of these names, in their order.
 fn command<'a>(
     alloc: Global,
     name: &'a str,
     arguments: &[&'a str],
 ) -> Result<Command<'a>, AllocError>
-    ensures shape { IfOk result (λ made. app_of made ≡ command name.entry.now (map (λ argument. argument.now) arguments.now)) }
+    ensures shape { IfOk result
+        (λ made. app_of made
+        ≡ command name.entry.now (map (λ argument. argument.now) arguments.now)) }
     ensures local { IfOk result (λ made. (out-Command made).has_globals ≡ false) }
 {
     let mut made = Command::new(alloc, name);
@@ -59,7 +63,7 @@ fn command<'a>(
     Ok(made)
 }
 
-/// The tool before it has commands.
+/// Returns the program of `clap` without commands.
 fn bare_tool<'a>(alloc: Global) -> Command<'a>
     ensures { app_of result ≡ bare_tool }
 {
@@ -70,19 +74,21 @@ fn bare_tool<'a>(alloc: Global) -> Command<'a>
         .subcommand_required(true)
 }
 
-/// The tool with one more command, which has this name and arguments of these names.
+/// Returns the program with one more command.
 fn with_command<'a>(
     alloc: Global,
     tool: Command<'a>,
     name: &'a str,
     arguments: &[&'a str],
 ) -> Result<Command<'a>, AllocError>
-    ensures { IfOk result (λ made. app_of made ≡ with_subcommand (app_of tool.entry) (command name.entry.now (map (λ argument. argument.now) arguments.now)).top) }
+    ensures { IfOk result (λ made. app_of made
+        ≡ with_subcommand (app_of tool.entry)
+        (command name.entry.now (map (λ argument. argument.now) arguments.now)).top) }
 {
     tool.subcommand(command(alloc, name, arguments)?)
 }
 
-/// The tool with its commands.
+/// Returns the program with its commands.
 fn tool<'a>(alloc: Global) -> Result<Command<'a>, AllocError>
     ensures { IfOk result (λ command. app_of command ≡ tool) }
 {
@@ -98,10 +104,11 @@ fn tool<'a>(alloc: Global) -> Result<Command<'a>, AllocError>
     with_command(alloc, tool, "refute", &["FILE", "PROC", "SCRIPT"])
 }
 
-/// What `clap` makes of words that may all be arguments.
+/// Returns what `clap` makes of arguments that are all allowed.
 fn matches_of<'a>(alloc: Global, words: &'a [String]) -> Result<ArgMatches<'a>, SettingsStop>
     requires { list_all (λ word. is_argument (string_bytes word)) words.now ≡ true }
-    ensures met { IfOk result (λ matches. IsMet (map string_bytes words.entry.now) (subcommand_rows_of matches)) }
+    ensures met { IfOk result
+        (λ matches. IsMet (map string_bytes words.entry.now) (subcommand_rows_of matches)) }
     ensures stop { IfErr result (λ stop. IsSettingsStop (map string_bytes words.entry.now) stop) }
 {
     match tool(alloc)?.try_get_matches_from(words) {
@@ -116,7 +123,7 @@ fn matches_of<'a>(alloc: Global, words: &'a [String]) -> Result<ArgMatches<'a>, 
     }
 }
 
-/// The word that the argument of this name was given.
+/// Returns the value of the argument with this name.
 fn value(alloc: Global, matches: &ArgMatches<'_>, name: &str) -> Result<Word, SettingsStop>
     ensures { (text : List ℕ) → first_of name.now (rows_of (found_of matches.now)) ≡ Some text
         → MatchResult result (λ word. word ≡ text) (λ stop. IsMemory stop) }
@@ -127,7 +134,7 @@ fn value(alloc: Global, matches: &ArgMatches<'_>, name: &str) -> Result<Word, Se
     Ok(Word::new(alloc, text)?)
 }
 
-/// The command `gen` with the number of lines that this word asks for.
+/// Returns the command `gen` with the number of lines that `word` is.
 fn generation(word: &Word) -> Result<Settings, SettingsStop>
     ensures { IsGenRead word.now result }
 {
@@ -137,15 +144,18 @@ fn generation(word: &Word) -> Result<Settings, SettingsStop>
     }
 }
 
-/// The command of this name, with the words that its arguments were given.
+/// Returns the command with this name, with the values of its arguments.
 fn command_met(
     alloc: Global,
     name: &str,
     matches: &ArgMatches<'_>,
 ) -> Result<Settings, SettingsStop>
-    ensures found { (settings : Settings) → (request_of settings).fits ≡ true → IsFound settings (Some (name.now, rows_of (found_of matches.now)))
+    ensures found { (settings : Settings) → (request_of settings).fits ≡ true
+        → IsFound settings (Some (name.now, rows_of (found_of matches.now)))
         → MatchResult result (λ found. found ≡ settings) (λ stop. IsMemory stop) }
-    ensures numbered { (word : List ℕ) → IsGenFound word (Some (name.now, rows_of (found_of matches.now))) → IsGenRead word result }
+    ensures numbered { (word : List ℕ)
+        → IsGenFound word (Some (name.now, rows_of (found_of matches.now)))
+        → IsGenRead word result }
 {
     match name {
         "verify" => Ok(Settings::Verify(value(alloc, matches, "FILE")?)),
@@ -186,11 +196,13 @@ fn command_met(
     }
 }
 
-/// The command that was met, with its words.
+/// Returns the command that `clap` found, with its arguments.
 fn met(alloc: Global, matches: &ArgMatches<'_>) -> Result<Settings, SettingsStop>
-    ensures found { (settings : Settings) → (request_of settings).fits ≡ true → IsFound settings (subcommand_rows_of matches.now)
+    ensures found { (settings : Settings) → (request_of settings).fits ≡ true
+        → IsFound settings (subcommand_rows_of matches.now)
         → MatchResult result (λ found. found ≡ settings) (λ stop. IsMemory stop) }
-    ensures numbered { (word : List ℕ) → IsGenFound word (subcommand_rows_of matches.now) → IsGenRead word result }
+    ensures numbered { (word : List ℕ) → IsGenFound word (subcommand_rows_of matches.now)
+        → IsGenRead word result }
 {
     let Some((name, inner)) = matches.subcommand() else {
         return Err(SettingsStop::Usage);
@@ -198,8 +210,13 @@ fn met(alloc: Global, matches: &ArgMatches<'_>) -> Result<Settings, SettingsStop
     command_met(alloc, name, inner)
 }
 
-/// What the words ask for, by the table of the commands, where no word behind the command is empty or begins with `-`. All other words are
-/// usage.
+/// Returns the command that the arguments ask for, by the table of the requests. No argument may be
+/// empty or begin with `-`.
+///
+/// # Errors
+///
+/// - `Usage`: the arguments are not a valid command.
+/// - `Memory`: memory ran out.
 pub fn settings(alloc: Global, words: &Vec<String>) -> Result<Settings, SettingsStop>
     ensures asked { IfOk result (λ settings. AskFor (map string_bytes words.now.items) settings) }
     ensures stop { IfErr result (λ stop. IsSettingsStop (map string_bytes words.now.items) stop) }

@@ -1,4 +1,6 @@
-//! The words of the command line: the command that they ask for.
+//! The reading of the command line: the command that its arguments ask for.
+//!
+//! `AllocError` means that memory ran out.
 #![tactic(auto)]
 
 mod command_line;

@@ -1,14 +1,15 @@
-//! How many lines a word asks for.
+//! The number of lines that an argument is.
 
 ghost use Rattle.command_words.specs.LineCounts.{AsksFor};
 ghost use Rattle.std.specs.Prelude.{MatchOption, ℕ};
 
 use itoa::Buffer;
 
-/// The most lines that can be asked for, which is the most procedures that a file may have.
+/// The largest number of lines, which is the largest number of procedures of a file.
 const MOST_LINES: u32 = 1024;
 
-/// The number of lines, from 1 to 1,024, that a word asks for in digits without a leading zero; none where it is no such number.
+/// Returns the number of lines, from 1 to 1,024, that `word` is in digits without a leading zero,
+/// or `None` if it is no such number.
 pub fn line_count(word: &str) -> Option<u32>
     ensures { MatchOption result ((n : ℕ) → AsksFor n word.now → ⊥) (λ n. AsksFor n word.now) }
 {

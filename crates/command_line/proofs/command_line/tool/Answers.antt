@@ -4,7 +4,7 @@ use Rattle.std.proofs.lemmas.Result.{IfOk-weaker}
 use Rattle.command_line.proofs.command_line.tool.Goals as goal
 use Rattle.command_line.specs.internal.CommandLine.{command}
 
--- The tools are equal with one more command.
+-- -
 more : {a b : App} (name : Text) (arguments : List Text) → a ≡ b → with_subcommand a (command name arguments).top ≡ with_subcommand b (command name arguments).top
 more name arguments = ap (λ a. with_subcommand a (command name arguments).top)
 
