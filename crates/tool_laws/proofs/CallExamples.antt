@@ -1,4 +1,5 @@
--- Worked calls of `check a s`: what is answered where files are read, and that nothing else is.
+-- Worked calls of `check a s`: the reply for each way in which reading may end, and that there is
+-- no other reply.
 use Rattle.heyvl_io.proofs.exported.Histories.{length-since_start}
 use Rattle.heyvl_io.specs.Faults.{Rose}
 use Rattle.heyvl_io.specs.History.{History, IsTaken, handed_out, since_start}
@@ -45,7 +46,7 @@ words = codes "check" ∷ file_name ∷ second_name ∷ []
 pub asks : AskFor words asked
 asks = record { words_are = refl; arguments = refl; fits = refl }
 
--- A source of both names in their order, and what it tells of each.
+-- A source with both names, in their order, and the bytes of each, if it reports them.
 abbrev pub Told : Type 0
 Told = List ℕ → Option (List ℕ)
 
@@ -55,40 +56,38 @@ source told = names_holding (file_name ∷ second_name ∷ []) told
 abbrev pub silent : Told
 silent name = None
 
--- `a` holds four bytes, and `s` six.
+-- `a` has four bytes, and `s` six.
 abbrev pub telling : Told
 telling name = if bytes_eq name file_name then Some (codes "proc") else (if bytes_eq name second_name then Some (codes "caesar") else None)
 
--- The source at first, and the call that ends at a moment.
+-- The source before the call, and the call that ends at `after`.
 abbrev pub start : Moment
 start = moment (first 0) [] 0
 
 abbrev pub until : Told → Moment → Call
 until told after = call words (source told) start after
 
--- What was handed out: this behind the start of FILE, and this behind that of the second text.
+-- The histories in which these bytes of FILE, or of both files, were read.
 abbrev pub of_file : List ℕ → History
 of_file bytes = handed_out file_name bytes ∷ []
 
 abbrev pub of_both : List ℕ → List ℕ → History
 of_both bytes text = handed_out file_name bytes ∷ (handed_out second_name text ∷ [])
 
--- ---- What follows from a cause
+-- ---- From a cause to the reply
 
--- What is answered once FILE was read.
+-- The reply after FILE was read.
 abbrev Rest : Told → Moment → List ℕ → Moment → Reply → Type 0
 Rest told after bytes between reply = IsReadReply 1 (source told) second_name (λ text now r. IsSaid (IsReplyTo asked bytes text) now after r) between after reply
 
 abbrev Answer : Told → Moment → Reply → Type 0
 Answer told after reply = IsReadReply 0 (source told) file_name (Rest told after) start after reply
 
--- The words ask for this command, and so the reply is its answer.
 answer_of : (told : Told) (after : Moment) (reply : Reply) → HasCause (until told after) reply → Answer told after reply
 answer_of told after reply (by_words refused e) = absurd (refused asked asks)
 answer_of told after reply (by_command settings also read) =
     subst (λ (t : Settings). IsFilesReply (files_of t) (IsReplyTo t) (source told) start after reply) (same_settings words settings asked also asks) read
 
--- Orders by numbers.
 abbrev number : Order → ℕ
 number untold = 0
 number (first k) = 1 + k
@@ -102,11 +101,10 @@ second_order told after between bytes reply (by_source started rose e) = started
 second_order told after between bytes reply (by_length long e) = long.order
 second_order told after between bytes reply (by_bytes now text read (same, said)) = sym (ap (λ (m : Moment). m.order) same) ∙ read.order
 
--- Once FILE was read, the second text is started, whatever comes of it.
 second_started : (told : Told) (after between : Moment) (bytes : List ℕ) (reply : Reply) → IsRead (source told) file_name bytes start between → Rest told after bytes between reply → after.order ≡ first 2
 second_started told after between bytes reply read rest = second_order told after between bytes reply rest ∙ ap (order_after (source told).order second_name) read.order
 
--- ---- FILE can't be read
+-- ---- FILE cannot be read
 
 abbrev file_fails : Moment
 file_fails = moment (first 1) (of_file (codes "pro")) 1
@@ -114,7 +112,6 @@ file_fails = moment (first 1) (of_file (codes "pro")) 1
 file_failed : HasCause (until silent file_fails) (read_fault 0)
 file_failed = by_command asked asks (by_source (record { order = refl; taken = record { bytes = codes "pro"; one = refl; few = omega arith } }) (inl (omega arith)) refl)
 
--- One byte more than a file may have isn't three bytes.
 not_three : (name bytes : List ℕ) (before : History) → length (since_start (before ++ handed_out name bytes ∷ [])) ≡ 3 → length bytes ≡ file_limit + 1 → ⊥
 not_three name bytes before three long = let all = length-since_start before (before ++ handed_out name bytes ∷ []) name bytes refl in omega (arith, three, long, all)
 
@@ -128,7 +125,7 @@ file_failed_only reply cause = by (answer_of silent file_fails reply cause)
 
 -- ---- FILE is too long
 
--- Of bytes that are one more than a file may have.
+-- `many` has one byte more than a file may have.
 module _ (many : List ℕ) (too_many : length many ≡ file_limit + 1) where
   abbrev file_long : Moment
   file_long = moment (first 1) (of_file many) 0
@@ -150,7 +147,7 @@ module _ (many : List ℕ) (too_many : length many ≡ file_limit + 1) where
       by (by_length long e) = e
       by (by_bytes between bytes read rest) = absurd (omega (arith, differs _ _ (second_started silent file_long between bytes reply read rest)))
 
-  -- Where the source tells that FILE is short, this can't come about.
+  -- If the source reports that FILE is short, this does not happen.
   no_short_file_is_long : (reply : Reply) → HasCause (until telling file_long) reply → ⊥
   no_short_file_is_long reply cause = by (answer_of telling file_long reply cause)
     where
@@ -159,7 +156,7 @@ module _ (many : List ℕ) (too_many : length many ≡ file_limit + 1) where
       by (by_length long e) = let longer = long.holds in omega (arith, longer)
       by (by_bytes between bytes read rest) = omega (arith, differs _ _ (second_started telling file_long between bytes reply read rest))
 
--- ---- The second text can't be read
+-- ---- The second file cannot be read
 
 abbrev pub second_fails : Moment
 second_fails = moment (first 2) (of_both (codes "proc") (codes "cae")) 1
@@ -173,11 +170,10 @@ second_failed =
     (by_bytes (moment (first 1) (of_file (codes "proc")) 0) (codes "proc") file_was_read
     (by_source (record { order = refl; taken = record { bytes = codes "cae"; one = refl; few = omega arith } }) (inl (omega arith)) refl))
 
--- What was handed out behind the last start, by its number.
 pub last_taken : (before after : History) (name bytes : List ℕ) → after ≡ before ++ handed_out name bytes ∷ [] → length bytes ≡ length (since_start after)
 last_taken before after name bytes e = sym (length-since_start before after name bytes e)
 
--- So the fault of FILE, which ends too early, isn't told.
+-- The error of FILE, which ends too early, is not reported.
 second_failed_only : (reply : Reply) → HasCause (until telling second_fails) reply → reply ≡ read_fault 1
 second_failed_only reply cause = by (answer_of telling second_fails reply cause)
   where
@@ -197,9 +193,9 @@ second_failed_only reply cause = by (answer_of telling second_fails reply cause)
     by (by_length long e) = absurd (omega (arith, differs _ _ long.order))
     by (by_bytes between bytes read rest) = behind between bytes rest
 
--- ---- The second text is too long
+-- ---- The second file is too long
 
--- Of bytes that are one more than a file may have.
+-- `many` has one byte more than a file may have.
 module _ (many : List ℕ) (too_many : length many ≡ file_limit + 1) where
   abbrev second_long : Moment
   second_long = moment (first 2) (of_both [] many) 0
@@ -239,7 +235,7 @@ no_rise : (before : ℕ) → Rose before 0 → ⊥
 no_rise before (inl more) = omega (arith, more)
 no_rise before (inr top) = omega (arith, top)
 
--- The reply is what is said of the bytes that both names hold.
+-- The reply is the one to the bytes of both names.
 both_were_read : (reply : Reply) → HasCause (until telling both_read) reply → IsReplyTo asked (codes "proc") (codes "caesar") reply
 both_were_read reply cause = by (answer_of telling both_read reply cause)
   where
@@ -260,14 +256,14 @@ both_were_read reply cause = by (answer_of telling both_read reply cause)
 second_was_read : IsRead (source telling) second_name (codes "caesar") (moment (first 1) (of_file (codes "proc")) 0) both_read
 second_was_read = record { order = refl; history = refl; short = omega arith; holds = refl; faults = omega arith }
 
--- So a fault of FILE is told, whatever the second text holds.
+-- An error of FILE is reported, whatever the second file has.
 fault_of_file : (number : ℕ) (place : Span) → IsSourceFault (codes "proc") number place → HasCause (until telling both_read) (source_fault (codes "proc") number place)
 fault_of_file number place fault =
     by_command asked asks (by_bytes (moment (first 1) (of_file (codes "proc")) 0) (codes "proc") file_was_read (by_bytes both_read (codes "caesar") second_was_read (refl, by_fault number place (spelling fault) refl)))
 
 -- ---- Other orders
 
--- No reply comes of another order: the second text first, one of them twice, or a third name.
+-- No reply follows from another order: the second file first, one of them twice, or a third name.
 other_order : (told : Told) (history : History) (rises : ℕ) (reply : Reply) → HasCause (until told (moment other history rises)) reply → ⊥
 other_order told history rises reply cause = by (answer_of told (moment other history rises) reply cause)
   where
@@ -276,7 +272,7 @@ other_order told history rises reply cause = by (answer_of told (moment other hi
     by (by_length long e) = omega (arith, differs _ _ long.order)
     by (by_bytes between bytes read rest) = omega (arith, differs _ _ (second_started told (moment other history rises) between bytes reply read rest))
 
--- And none comes where nothing was started.
+-- No reply follows if nothing was started.
 no_start : (told : Told) (history : History) (rises : ℕ) (reply : Reply) → HasCause (until told (moment (first 0) history rises)) reply → ⊥
 no_start told history rises reply cause = by (answer_of told (moment (first 0) history rises) reply cause)
   where
@@ -285,7 +281,7 @@ no_start told history rises reply cause = by (answer_of told (moment (first 0) h
     by (by_length long e) = omega (arith, differs _ _ long.order)
     by (by_bytes between bytes read rest) = omega (arith, differs _ _ (second_started told (moment (first 0) history rises) between bytes reply read rest))
 
--- ---- Words that are no command
+-- ---- Arguments that are not a valid command
 
 abbrev pub lone : List (List ℕ)
 lone = codes "check" ∷ []
@@ -309,7 +305,7 @@ told_usage_only : (after : Moment) (reply : Reply) → HasCause (call lone (sour
 told_usage_only after reply (by_words refused e) = e
 told_usage_only after reply (by_command settings also read) = absurd (no_command settings also)
 
--- The line, as it is written.
+-- The line as it is written.
 usage_is : usage_line ≡ codes "usage: caesar verify FILE | print FILE | run FILE PROC SCRIPT | certify FILE | check FILE CERT | gen N | pgcl FILE | omega FILE PROC NAME | remainder FILE PROC NAME | refute FILE PROC SCRIPT\n"
 usage_is = refl
 
@@ -322,7 +318,7 @@ statuses :
     × (fault_status (faults.Run (Bits 1)) ≡ 8) × (fault_status faults.Write ≡ 6) × (fault_status faults.Memory ≡ 7)
 statuses = (refl, refl, refl, refl, refl, refl, refl, refl, refl, refl, refl, refl, refl, refl, refl)
 
--- A delivered `read fault` has status 5, or 6 where the sink failed.
+-- A delivered `read fault` has the status 5, or 6 if the sink failed.
 read_fault_status : (done : Writing) (outcome : Outcome) → IsDelivered (read_fault 1) done outcome → (outcome.status ≡ 5) ⊎ (outcome.status ≡ 6)
 read_fault_status done outcome delivered = by delivered.delivered
   where

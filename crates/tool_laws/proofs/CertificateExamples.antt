@@ -1,4 +1,5 @@
--- Worked replies of `certify` and `check`, on a file with one procedure that has no body, and on an empty text.
+-- Worked replies of `certify` and `check`, for a file with one procedure, which has no body, and
+-- for an empty text.
 use Rattle.cert_text.specs.Certificates.{certificates_of}
 use Rattle.cert_text.specs.Lines.{last, line_text, title}
 use Rattle.cert_text.specs.Texts.AreFirstLines.{of_text}
@@ -47,13 +48,13 @@ f = record { name = codes "f"; co = true; weak = false; inputs = []; outputs = [
 abbrev file : List TypedProcedure
 file = f ∷ []
 
--- ---- A text of certificates at fault
+-- ---- An invalid text of certificates
 
 no_text_has_no_line : (next behind : List ℕ) → [] ≡ next ++ 10 ∷ behind → ⊥
 no_text_has_no_line [] behind e = cc
 no_text_has_no_line (b ∷ bs) behind e = cc
 
--- An empty text lacks the title.
+-- The empty text lacks the title.
 empty_fault : IsFirstFault [] 1
 empty_fault = record {
   before = [];
@@ -75,13 +76,13 @@ empty_is_told = by_line 1 empty_fault refl
 empty_status : empty_reply.status ≡ 3
 empty_status = refl
 
--- No report is made by it.
 no_report_of_empty : (reply : Reply) → IsCheckReport file_bytes file [] reply → ⊥
 no_report_of_empty reply report = empty_fault.unfinished (certificates_of report.certs) report.spelled
 
--- ---- A static fault of FILE comes before a fault of the certificates
+-- ---- A static error of FILE comes before an error of the certificates
 
--- Where the bytes spell a file with a static fault, it is told, whatever the text of certificates holds.
+-- If the bytes spell a file with a static error, it is reported, whatever the text of certificates
+-- is.
 static_only : SourcesHaveNoFault → SpellingIsUnique → (bytes text : List ℕ) (h : List Procedure) (number : ℕ) (place : Span) (reply : Reply) → IsSource bytes h → first_fault h ≡ Some (number, place) → IsCheckReply bytes text reply
     → reply.fault ≡ faults.Source number place
 static_only clean unique bytes text h number place reply is first told =
@@ -95,7 +96,7 @@ no_certificate_fault clean unique bytes text h number place is first told = not_
 
 -- ---- Reports and certificates of the file
 
--- Of answers with this vector of loops.
+-- The answers have no loops.
 module _ (none : Vec LoopAnswer Global) (no_loops : none.items ≡ []) where
   answer : Verdict → Answer
   answer v = record { name = codes "f"; verdict = v; loops = none }
@@ -103,7 +104,6 @@ module _ (none : Vec LoopAnswer Global) (no_loops : none.items ≡ []) where
   abbrev one : Verdict → List Answer
   one v = answer v ∷ []
 
-  -- What stands in a list of one.
   only : (x y : Answer) (before behind : List Answer) → x ∷ [] ≡ before ++ (y ∷ behind) → y ≡ x
   only x y [] behind e = cc
   only x y (b ∷ []) behind e = cc
@@ -122,7 +122,7 @@ module _ (none : Vec LoopAnswer Global) (no_loops : none.items ≡ []) where
   not_falsified : (id : GoalId) (state : Vec Val Global) → NoBody ≡ NotVerified id state → ⊥
   not_falsified id state e = cc
 
-  -- That there is no body promises nothing.
+  -- The verdict that there is no body promises nothing.
   promises_nothing : IsHeadline file (one NoBody)
   unfolding answer
   promises_nothing = record {
@@ -156,7 +156,7 @@ module _ (none : Vec LoopAnswer Global) (no_loops : none.items ≡ []) where
     is_reply = refl;
   }
 
-  -- It never says that the procedure is verified.
+  -- `certify` does not report the procedure as verified.
   has_no_program : IsProgram (procedure_at file 0) → ⊥
   has_no_program e = cc
 
@@ -189,7 +189,6 @@ module _ (none : Vec LoopAnswer Global) (no_loops : none.items ≡ []) where
     is_reply = ap (answered (one NoBody)) (sym report_is);
   })
 
-  -- The status is 0.
   checked_status : reported.status ≡ 0
   unfolding answer
   checked_status = rw no_loops refl

@@ -1,4 +1,4 @@
--- What the laws of the commands need to know of each reply, a row a command.
+-- What the laws of the commands need to know of each reply, with a lemma for each command.
 use Rattle.heyvl_acts.specs.Acts.{TypedProcedure}
 use Rattle.heyvl_places.specs.declared.spans.Span.{Span}
 use Rattle.heyvl_syntax.specs.Grammar.{Spells}
@@ -46,7 +46,7 @@ use Rattle.verify_core.specs.Headline.{IsHeadline}
 
 -- ---- Faults
 
--- The fault is told once the files of a command were read, and is none of a file's own.
+-- The fault occurs after the files of a command were read, and is no error of a file.
 abbrev pub is_told_late : Fault → Bool
 is_told_late faults.Nothing = true
 is_told_late faults.Usage = false
@@ -62,7 +62,7 @@ is_told_late (faults.Run stopped) = true
 is_told_late faults.Write = false
 is_told_late faults.Memory = false
 
--- The fault is told once the files were read.
+-- The fault occurs after the files of a command were read.
 abbrev pub is_told : Fault → Bool
 is_told faults.Nothing = true
 is_told faults.Usage = false
@@ -99,31 +99,31 @@ one_finding n m p q e = let numbers : n ≡ m = cc in let places : p ≡ q = cc 
 told_finding : (bytes : List ℕ) (reply : Reply) (n m : ℕ) (p q : Span) → reply ≡ source_fault bytes n p → reply.fault ≡ faults.Source m q → ◌≡◌ {A = Finding} (n, p) (m, q)
 told_finding bytes reply n m p q e f = one_finding n m p q (sym (ap (λ (r : Reply). r.fault) e) ∙ f)
 
--- ---- What is known of a reply
+-- ---- Facts about a reply
 
--- The file that bytes spell, and what answers promise of it.
+-- The file that the bytes spell, and the promises of answers about it.
 pub record Promised (bytes : List ℕ) (answers : List Answer) : Type 0 where
   pub file : List Procedure
   pub spelled : IsSource bytes file
   pub faultless : first_fault file ≡ None
   pub headline : IsHeadline (resolved file) answers
 
--- The first static fault of a file is told, where types are asked for.
+-- If the command types its file, the first static error is reported.
 abbrev StaticTold : Front → List ℕ → Reply → Type 0
 StaticTold Front.other bytes reply = Unit {0}
 StaticTold Front.spelled bytes reply = Unit {0}
 StaticTold Front.typed bytes reply =
     SourcesHaveNoFault → SpellingIsUnique → (file : List Procedure) (number : ℕ) (place : Span) → IsSource bytes file → first_fault file ≡ Some (number, place) → reply ≡ source_fault bytes number place
 
--- Its fault is one that is told once the files were read, and is there where it is one of the file; its answers keep the headline's
--- promises.
+-- The fault of the reply occurs after the files were read; if it is an error of the file, the file
+-- has it; and the answers keep the promises of the headline.
 pub record IsKnownReply (front : Front) (bytes text : List ℕ) (reply : Reply) : Type 0 where
   pub told : is_told reply.fault ≡ true
   pub there : (number : ℕ) (place : Span) → reply.fault ≡ faults.Source number place → MayTell front bytes number place
   pub static_told : StaticTold front bytes reply
   pub promised : reply.answers ≢ [] → Promised text reply.answers
 
--- What is known of what is said of typed procedures.
+-- The facts about a reply to typed procedures.
 pub record IsKnownOf (ps : List TypedProcedure) (reply : Reply) : Type 0 where
   pub late : is_told_late reply.fault ≡ true
   pub promised : reply.answers ≢ [] → IsHeadline ps reply.answers
@@ -131,14 +131,13 @@ pub record IsKnownOf (ps : List TypedProcedure) (reply : Reply) : Type 0 where
 late_of : (reply other : Reply) → reply ≡ other → is_told_late other.fault ≡ true → is_told_late reply.fault ≡ true
 late_of reply other e late = ap (λ (r : Reply). is_told_late r.fault) e ∙ late
 
--- A message has no answers.
 pub no_message : (reply other : Reply) → reply ≡ other → reply.answers ≢ [] → other.answers ≡ [] → ⊥
 no_message reply other e some none = some (ap (λ (r : Reply). r.answers) e ∙ none)
 
 message_known : (ps : List TypedProcedure) (reply other : Reply) → reply ≡ other → is_told_late other.fault ≡ true → other.answers ≡ [] → IsKnownOf ps reply
 message_known ps reply other e late none = record { late = late_of reply other e late; promised = λ some. absurd (no_message reply other e some none) }
 
--- ---- Of a command that asks for types
+-- ---- Commands that type their file
 
 spelled : (bytes : List ℕ) (file : List Procedure) → IsSource bytes file → Spells bytes file
 spelled bytes file is = record { tokens = is.tokens; lexes = is.lexes; is_file = is.is_file }
@@ -180,7 +179,7 @@ typed_known Says bytes reply known (IsTypedReply.by_file file is none says) =
       promised = λ some. record { file = file; spelled = is; faultless = none; headline = k.promised some };
     }
 
--- ---- Of a command that asks for none
+-- ---- Commands that do not type their file
 
 spelled_there : (bytes : List ℕ) (reply : Reply) (n : ℕ) (p : Span) → IsSourceFault bytes n p → reply ≡ source_fault bytes n p → (number : ℕ) (place : Span) → reply.fault ≡ faults.Source number place → IsSourceFault bytes number place
 spelled_there bytes reply n p fault e number place is = subst (λ (f : Finding). IsSourceFault bytes f.0 f.1) (told_finding bytes reply n number p place e is) fault
@@ -264,7 +263,7 @@ refute_known name script ps reply (IsRefuteOf.by_program s read p named upper q 
 refute_known name script ps reply (IsRefuteOf.by_search s read p named upper reach tells) =
     record { late = late_of reply _ tells.told (refuted_late _ s.steps reply.answers tells.answer); promised = λ some. tells.headline }
 
--- ---- Of a command that reads no HeyVL
+-- ---- A command that reads no HeyVL
 
 pgcl_known : (bytes : List ℕ) (reply : Reply) → IsPgclReply bytes reply → IsKnownReply Front.other bytes bytes reply
 pgcl_known bytes reply (IsPgclReply.by_fault n p fault e) = record {
@@ -290,7 +289,6 @@ gen_known n bytes reply is =
       promised = λ some. record { file = s.file; spelled = s.spelled; faultless = s.faultless; headline = s.headline };
     }
 
--- The rows.
 pub reply_known : (settings : Settings) (bytes second : List ℕ) (reply : Reply) → IsReplyTo settings bytes second reply → IsKnownReply (row_of settings).front bytes (verified_text settings bytes) reply
 reply_known (Verify file) bytes second reply said = typed_known (IsReport bytes) bytes reply (λ ps. report_known bytes ps reply) said
 reply_known (Print file) bytes second reply said = print_known bytes reply said

@@ -1,4 +1,4 @@
--- Why each command answers whatever it can.
+-- Each command gives its answer unless a device, a length limit or memory prevents it.
 use Rattle.command_rules.specs.Messages.{Reply}
 use Rattle.tool_laws.proofs.exported.CallLemmas.CameTo.{failed, said, too_long}
 use Rattle.tool_laws.proofs.exported.CallLemmas.{CameTo, came_to}

@@ -1,4 +1,4 @@
--- What a call came to whose status is at most 2, of a command that asks for types.
+-- The outcomes of commands that type their file, if the status is at most 2.
 use Rattle.heyvl_acts.specs.Acts.{TypedProcedure}
 use Rattle.heyvl_syntax.specs.Procedures.{Procedure}
 use Rattle.heyvl_syntax.specs.SourceFaults.{IsSource}
@@ -16,14 +16,14 @@ use Rattle.command_words.specs.declared.requests.Settings.{Settings}
 use Rattle.static_rules.specs.Files.{first_fault, resolved}
 use Rattle.std.proofs.Common.{List, None, ap, arith, inl, inr, subst, sym, ◌∙◌, ◌≡◌, ◌≤◌, ◌⊎◌, ℕ}
 
--- The reply has the status of what it is.
 pub status_is : (reply other : Reply) (n : ℕ) → reply ≡ other → reply.status ≡ n → other.status ≡ n
 status_is reply other n e h = sym (ap (λ (r : Reply). r.status) e) ∙ h
 
 status_low : (reply other : Reply) → reply ≡ other → reply.status ≤ 2 → other.status ≤ 2
 status_low reply other e low = subst (λ (r : Reply). r.status ≤ 2) e low
 
--- The bytes that were read spell a file without a fault, and this was said of its procedures.
+-- The bytes that were read spell a file without an error, and `Says` relates its procedures and the
+-- reply.
 pub record SaidTyped (Says : List ℕ → List ℕ → List TypedProcedure → Reply → Type 0) (files : Files) (made : Call) (reply : Reply) : Type 0 where
   pub bytes : List ℕ
   pub text : List ℕ
@@ -44,7 +44,6 @@ came_low Says settings files made reply typed low (failed k rose e) = let no : 5
 came_low Says settings files made reply typed low (too_long k taken e) = let no : 3 ≤ 2 = status_low reply _ e low in absurd (omega (arith, no))
 came_low Says settings files made reply typed low (said bytes text read replied) = typed_low Says files made reply bytes text low read (typed bytes text replied)
 
--- An outcome with such a status was written whole.
 pub written_low : (reply : Reply) (done : Writing) (outcome : Outcome) → outcome.status ≤ 2 → IsWritten reply done outcome ⊎ IsCut reply done outcome → IsWritten reply done outcome
 written_low reply done outcome low (inl written) = written
 written_low reply done outcome low (inr cut) = let six = cut.status in absurd (omega (arith, six, low))

@@ -1,4 +1,5 @@
--- Worked starts: how many names of a source are started, by the fault, of the calls `check a s` and `check`.
+-- Worked starts: the number of names that are started, by the fault, for the calls `check a s` and
+-- `check`.
 use Rattle.heyvl_io.specs.History.{History}
 use Rattle.heyvl_io.specs.Order.{Order, first, other, untold}
 use Rattle.tool_laws.proofs.CallExamples.{Told, asked, asks, file_name, last_taken, lone, no_command, of_both, of_file, second_fails, second_name, source, start, telling, until, words}
@@ -37,7 +38,7 @@ file_started = record { order = refl; taken = record { bytes = codes "proc"; one
 second_started_then : IsStartedOnce (source telling) second_name (moment (first 1) (of_file (codes "proc")) 0) second_fails
 second_started_then = record { order = refl; taken = record { bytes = codes "cae"; one = refl; few = omega arith } }
 
--- Both names were started in their order, and three bytes of the second handed out.
+-- Both names were started in their order, and three bytes of the second one were read.
 started_right : (NoMemory : Type 0) → IsStartedRight (until telling second_fails) NoMemory
 started_right NoMemory = record {
   no_start = λ usage. absurd (usage asked asks);
@@ -46,14 +47,14 @@ started_right NoMemory = record {
       inl (subst (λ (t : Settings). IsReadInTurn (files_of t) (source telling) start second_fails) (same_settings words asked settings asks also) (inr (moment (first 1) (of_file (codes "proc")) 0, file_started, second_started_then)));
 }
 
--- ---- Faults that the order refuses
+-- ---- Faults that contradict the order
 
 abbrev number : Order → ℕ
 number untold = 0
 number (first k) = 1 + k
 number other = 100
 
--- Where both names were started, no fault is told of the first one, nor of the words.
+-- If both names were started, the fault is neither about the first one nor about the arguments.
 told_of_the_second : StartsAreCounted → (done : Writing) (outcome : Outcome) (n : ℕ) → IsAnswered (until telling second_fails) done outcome ⊎ IsOutOfMemory done outcome → starts_of outcome.fault ≡ Some n → n ≡ 2
 told_of_the_second counted done outcome n answered starts =
     let order : second_fails.order ≡ first n = subst (λ (o : Option ℕ). IfSome o (λ m. second_fails.order ≡ first m)) starts (counted (until telling second_fails) done outcome (has_names telling second_fails) (started_right _) answered).0 in
@@ -70,14 +71,16 @@ no_usage counted done outcome answered fault =
     let none : 0 ≡ 2 = told_of_the_second counted done outcome 0 answered (ap starts_of fault) in
     omega (arith, none)
 
--- Of a call that isn't as the top call promises it: the words are no command, and yet a name was started.
+-- The contract refuses a call in which a name was started although the arguments are not a valid
+-- command.
 no_start_for_usage : (history : History) (rises : ℕ) (NoMemory : Type 0) → IsStartedRight (call lone (source telling) start (moment (first 1) history rises)) NoMemory → ⊥
 no_start_for_usage history rises NoMemory right =
     let untouched : IsUntouched start (moment (first 1) history rises) = right.no_start no_command in
     let same : 1 + 1 ≡ 1 + 0 = ap number untouched.order in
     omega (arith, same)
 
--- Nor is this: FILE was read to its end, the second text was started, two million bytes of it were handed out, and then there was no memory.
+-- The contract refuses a call that read FILE to its end and two million bytes of the second file,
+-- and then ran out of memory.
 no_two_million : (many : List ℕ) → length many ≡ 2000000 → (outcome : Outcome) → IsStartedRight (until telling (moment (first 2) (of_both (codes "proc") many) 0)) (outcome.fault ≡ faults.Memory) → ⊥
 no_two_million many size outcome right = by (right.start asked asks)
   where

@@ -1,4 +1,4 @@
--- How many names of a source are started.
+-- The number of names of a source that are started.
 use Rattle.heyvl_io.specs.Order.{Order, first, order_after, other}
 use Rattle.heyvl_io.specs.OrderLaws.{NextNameCounts}
 use Rattle.tool_laws.proofs.CommandReplies.{is_told, reply_known}
@@ -25,7 +25,6 @@ first_not_other k o e f = let no : first k ≡ other = sym e ∙ f in cc
 
 -- ---- The order of starts
 
--- A start of the first name behind no other, and one of the next name.
 file_first : NextNameCounts → (names : Names) (file : List ℕ) (before after : Moment) → before.order ≡ first 0 → slice_get names.order 0 ≡ Some file → after.order ≡ order_after names.order file before.order → after.order ≡ first 1
 file_first next names file before after fresh is started = started ∙ (ap (order_after names.order file) fresh ∙ next names.order 0 file is)
 
@@ -66,7 +65,7 @@ none_without_files made NoMemory has right settings asks none = by (right.start 
     by (inl turn) = turn_without_files (files_of settings) made.names made.before made.after none has.fresh turn
     by (inr out) = out.1.order ∙ has.fresh
 
--- ---- What the fault tells
+-- ---- The fault and the number of starts
 
 abbrev TellsFault : Fault → Moment → Type 0
 TellsFault fault after = IfSome (starts_of fault) (λ n. after.order ≡ first n)

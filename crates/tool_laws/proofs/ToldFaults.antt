@@ -1,4 +1,4 @@
--- Which faults of a file the commands tell, from the reply to its bytes.
+-- The errors of a file that commands report, from the reply to its bytes.
 use Rattle.heyvl_places.specs.declared.spans.Span.{Span}
 use Rattle.heyvl_syntax.specs.Procedures.{Procedure}
 use Rattle.heyvl_syntax.specs.SourceFaults.{IsSource, SourcesHaveNoFault}

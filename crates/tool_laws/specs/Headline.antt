@@ -1,4 +1,5 @@
--- What a user may rely on where a report says `verified`, `ranked` or `not verified`, and where a run tells numbers.
+-- What a user may rely on if a report says `verified`, `ranked` or `not verified`, and if `run`
+-- writes numbers. This project's own.
 use Rattle.std.specs.Prelude.{List, None, Some, [], ◌≡◌, ◌≢◌, ℕ}
 use Rattle.heyvl_syntax.specs.Procedures.{Procedure}
 use Rattle.heyvl_syntax.specs.SourceFaults.{IsSource}
@@ -26,14 +27,20 @@ use Rattle.run_unroller.specs.Totals.{Totals}
 use Rattle.run_unroller.specs.UnrollLaws.{AreSums}
 use Rattle.verify_core.specs.Headline.{IsHeadline}
 
--- The outcome of a command is what is said of the bytes that were read of its file, and of its second text, which are those that
--- the source holds where it tells them. These bytes, or for `gen` its generated text, spell a file without a fault, and of its
--- procedures the answers of the outcome promise: each coproc that is reported verified has, from every initial state, under every
--- scheduler and for every n, reward and post over runs of at most n steps, weighted exactly, at most its pre; each weak proc that
--- is reported verified has post so weighted, plus the weight still running, at least its pre; each loop that is reported ranked
--- has expected turns within n steps, times its step, at most its ranking; and each program without loops and calls whose bound is
--- reported as not verified has runs that break it, from the initial state that is shown.
-pub record IsVerifiedFrom (settings : Settings) (made : Call) (done : Writing) (outcome : Outcome) : Type 0 where
+-- The outcome of a command is its reply to the bytes that were read of its files. They are those
+-- that the source holds, if it reports them. These bytes, or for `gen` its generated text, spell a
+-- file without an error, and the answers of the outcome promise the following, for every n.
+--
+-- - Each coproc that is reported as verified has, from every initial state and under every
+--   scheduler, reward and post over runs of at most n steps, weighted exactly, of at most its pre.
+-- - Each proc with `@wlp` that is reported as verified has post over these runs, plus the mass not
+--   yet terminated, of at least its pre.
+-- - Each loop that is reported as ranked has expected iterations within n steps, times its step, of
+--   at most its ranking.
+-- - Each program without loops and calls whose bound is reported as not verified has runs that
+--   violate it, from the initial state that is shown.
+pub record IsVerifiedFrom (settings : Settings) (made : Call) (done : Writing) (outcome : Outcome)
+    : Type 0 where
   pub bytes : List ℕ
   pub second : List ℕ
   pub read : AreRead (files_of settings) made.names bytes second made.before made.after
@@ -45,27 +52,34 @@ pub record IsVerifiedFrom (settings : Settings) (made : Call) (done : Writing) (
   pub faultless : first_fault file ≡ None
   pub headline : IsHeadline (resolved file) outcome.answers.items
 
--- Where a command gives answers, they are those on the bytes that were read, and keep these promises.
+-- If a command gives answers, they are those on the bytes that were read, and keep the promises of
+-- the headline.
 abbrev pub AnswersAreMeant : Call → Writing → Outcome → Type 0
-AnswersAreMeant made done outcome = (settings : Settings) → AskFor made.words settings → outcome.answers.items ≢ [] → IsVerifiedFrom settings made done outcome
+AnswersAreMeant made done outcome = (settings : Settings) → AskFor made.words settings
+    → outcome.answers.items ≢ [] → IsVerifiedFrom settings made done outcome
 
 -- ---- Runs
 
--- What a procedure begins with by a script: its body, in the state that the script sets.
+-- The configuration in which the procedure `p` starts by a script: its body, in the state that the
+-- script sets.
 abbrev pub start_by : List TypedProcedure → ℕ → Script → Config
 start_by ps p s = begin ps p (start_state (procedure_at ps p) s.settings)
 
--- Its runs of at most n steps, each with its probability, under the scheduler that decides by the script.
+-- The runs of the procedure `p` of at most `n` steps, each with its probability, under the
+-- scheduler of the script.
 abbrev pub scripted_runs : List TypedProcedure → ℕ → Script → ℕ → Outcomes
 scripted_runs ps p s n = runs ps n (start_by ps p s) (scripted ps s.decisions n 0 (start_by ps p s))
 
--- Numbers were written, whole and nothing else, and they are sums over runs. The bytes that were read, of the file and of the
--- script, are those that the source holds where it tells them. They spell a file without a fault, in which a procedure has the name
--- that was asked for, and it and all that it reaches are programs; and a script for it, which says a number of steps. Over
--- the runs of the procedure of at most so many steps, from the state that the script sets and under its scheduler, weighted exactly,
--- the numbers are the post of the runs that have ended, the reward of all runs, the weight of those that have not ended, and the turns
--- of each loop.
-pub record IsSummedFrom (name procedure script : List ℕ) (made : Call) (done : Writing) (outcome : Outcome) : Type 0 where
+-- A call of `run` wrote numbers, as a whole and nothing else, and they are sums over runs.
+--
+-- The bytes that were read of the file and of the script are those that the source holds, if it
+-- reports them. They spell a file without an error, in which `procedure` names a procedure that is
+-- a program and reaches only programs, and a script for it. The runs are those of this procedure
+-- within the script's number of steps, from the state that the script sets and under its scheduler,
+-- weighted exactly. The numbers are the expected post of the terminated runs, the expected reward
+-- of all runs, the mass not yet terminated, and the expected iterations of each loop.
+pub record IsSummedFrom (name procedure script : List ℕ) (made : Call) (done : Writing)
+    (outcome : Outcome) : Type 0 where
   pub bytes : List ℕ
   pub text : List ℕ
   pub read : AreRead (Files.two name script) made.names bytes text made.before made.after
@@ -78,10 +92,13 @@ pub record IsSummedFrom (name procedure script : List ℕ) (made : Call) (done :
   pub said : Script
   pub spells : Spells (Some (known_of (procedure_at (resolved file) number))) said text
   pub numbers : Totals
-  pub sums : AreSums (procedure_at (resolved file) number) (scripted_runs (resolved file) number said said.steps) numbers
+  pub sums : AreSums (procedure_at (resolved file) number)
+      (scripted_runs (resolved file) number said said.steps) numbers
   pub written : IsWritten (message Nothing (sums_text numbers)) done outcome
 
--- Where `run` comes to an end without a fault, it wrote these numbers, of the bytes that were read.
+-- If `run` ends without an error, `IsSummedFrom` holds for the file, the procedure and the script
+-- that the call names.
 abbrev pub SumsAreMeant : Call → Writing → Outcome → Type 0
 SumsAreMeant made done outcome =
-    (file procedure script : List ℕ) → AskFor made.words (Run file procedure script) → outcome.fault ≡ Nothing → IsSummedFrom file procedure script made done outcome
+    (file procedure script : List ℕ) → AskFor made.words (Run file procedure script)
+    → outcome.fault ≡ Nothing → IsSummedFrom file procedure script made done outcome

@@ -1,4 +1,5 @@
--- What a user may rely on where `omega` or `remainder` says that a bound from below holds.
+-- What a user may rely on if `omega` or `remainder` reports that a lower bound holds. This
+-- project's own.
 use Rattle.heyvl_acts.specs.Acts.{TypedProcedure, procedure_at}
 use Rattle.heyvl_num.specs.Rational.{Rational}
 use Rattle.heyvl_syntax.specs.Procedures.{Procedure}
@@ -18,9 +19,11 @@ use Rattle.lower_texts.specs.OmegaTexts.{holds_text}
 use Rattle.lower_texts.specs.RemainderTexts.{bound_text, remainder_line}
 use Rattle.std.specs.Prelude.{List, None, Some, [], ◌≡◌, ℕ}
 
--- The bytes that were read of the file are those that the source holds where it tells them. They spell a file without a fault, in which
--- two procedures have the names that were asked for, and this holds of them.
-pub record IsPairFrom (Holds : List TypedProcedure → ℕ → ℕ → Type 0) (name procedure other : List ℕ) (made : Call) : Type 0 where
+-- The bytes that were read of the file `name` are those that the source holds, if it reports them.
+-- They spell a file without an error, in which `procedure` and `other` name two procedures for
+-- which `Holds` is true.
+pub record IsPairFrom (Holds : List TypedProcedure → ℕ → ℕ → Type 0) (name procedure other : List ℕ)
+    (made : Call) : Type 0 where
   pub bytes : List ℕ
   pub read : AreRead (Files.one name) made.names bytes [] made.before made.after
   pub file : List Procedure
@@ -32,22 +35,33 @@ pub record IsPairFrom (Holds : List TypedProcedure → ℕ → ℕ → Type 0) (
   pub second_named : procedure_named other (resolved file) ≡ Some second
   pub holds : Holds (resolved file) first second
 
--- The second procedure's pre is an omega invariant of the first one's loop: so from each state, for each m, every n from the steps of m turns
--- on and every scheduler, what ended runs of at most m turns collect from the loop's test on is at least it, with m for its last input.
--- This was written, and nothing else.
-pub record HoldsOmega (done : Writing) (outcome : Outcome) (ps : List TypedProcedure) (p q : ℕ) : Type 0 where
+-- The pre of the procedure `q` is an omega invariant of the loop of the procedure `p`. So it is a
+-- lower bound on the post of terminated runs: from each state at the loop's test, for each m, every
+-- number of steps that suffices for m iterations and every scheduler, the expected post of the runs
+-- that terminate within m iterations is at least this pre, with m for its last input. This was
+-- written, and nothing else.
+pub record HoldsOmega (done : Writing) (outcome : Outcome) (ps : List TypedProcedure) (p q : ℕ)
+    : Type 0 where
   pub bounds : OmegaHolds ps p q
   pub written : IsWritten (stated 0 (holds_text (procedure_at ps p).name)) done outcome
 
--- The step of the loop's ranking was written, and nothing else but the names: with it, from each state, for each m above 0, every n from the
--- steps of m turns on and every scheduler, what ended runs of at most m turns collect is at least the first procedure's pre, but for the
--- second one's over the step times m.
-pub record HoldsRemainder (done : Writing) (outcome : Outcome) (ps : List TypedProcedure) (p q : ℕ) : Type 0 where
+-- The procedure names and the step of the loop's ranking were written, and nothing else. With this
+-- step, from each state, for each m above 0, every number of steps that suffices for m iterations
+-- and every scheduler, the expected post of the runs that terminate within m iterations is at least
+-- pre(`p`) - pre(`q`)/(`step`*m).
+pub record HoldsRemainder (done : Writing) (outcome : Outcome) (ps : List TypedProcedure) (p q : ℕ)
+    : Type 0 where
   pub step : Rational
   pub bounds : RemainderHolds ps p q step
-  pub written : IsWritten (stated 0 (remainder_line (procedure_at ps p).name (bound_text (procedure_at ps q).name step))) done outcome
+  pub written : IsWritten (stated 0
+      (remainder_line (procedure_at ps p).name (bound_text (procedure_at ps q).name step))) done
+      outcome
 
--- Where the status of `omega` or of `remainder` is 0, the bound holds, of the bytes that were read.
+-- If the status of `omega` or `remainder` is 0, the lower bound holds, for the bytes that were
+-- read.
 pub record BoundsAreMeant (made : Call) (done : Writing) (outcome : Outcome) : Type 0 where
-  pub invariants : (file procedure name : List ℕ) → AskFor made.words (Omega file procedure name) → outcome.status ≡ 0 → IsPairFrom (HoldsOmega done outcome) file procedure name made
-  pub remainders : (file procedure name : List ℕ) → AskFor made.words (Remainder file procedure name) → outcome.status ≡ 0 → IsPairFrom (HoldsRemainder done outcome) file procedure name made
+  pub invariants : (file procedure name : List ℕ) → AskFor made.words (Omega file procedure name)
+      → outcome.status ≡ 0 → IsPairFrom (HoldsOmega done outcome) file procedure name made
+  pub remainders : (file procedure name : List ℕ)
+      → AskFor made.words (Remainder file procedure name) → outcome.status ≡ 0
+      → IsPairFrom (HoldsRemainder done outcome) file procedure name made

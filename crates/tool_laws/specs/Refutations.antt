@@ -1,4 +1,4 @@
--- What a user may rely on where `refute` says that a bound is violated.
+-- What a user may rely on if `refute` reports that a bound is violated. This project's own.
 use Rattle.goal_answers.specs.declared.named_goals.NamedGoal.{NamedGoal}
 use Rattle.goal_answers.specs.declared.trees.GoalCert.{GoalCert}
 use Rattle.heylo_formula.specs.declared.values.Val.{Val}
@@ -29,22 +29,31 @@ use Rattle.verdict_report.specs.VerdictsOn.{IsVerdictOn}
 use Rattle.verify_core.specs.AnsweredProcedures.{AreAnswered}
 use Rattle.verify_core.specs.CheckedAnswers.{IsCheckedFile}
 
--- No answers on this file say that the procedure is verified: neither answers by decisions of its goals nor answers by certificates.
+-- No answers on `file`, by decisions of its goals or by certificates, report the procedure with the
+-- number `number` as verified.
 pub record IsNeverVerified (file : List Procedure) (number : ℕ) : Type 0 where
-  pub decided : (answers : List Answer) (made : List NamedGoal) (certs : List GoalCert) → AreAnswered (resolved file) answers made certs → IsVerdictOn answers number Verified → ⊥
-  pub checked : (certs : List GoalCert) (answers : List Answer) → IsCheckedFile (resolved file) certs answers → IsVerdictOn answers number Verified → ⊥
+  pub decided : (answers : List Answer) (made : List NamedGoal) (certs : List GoalCert)
+      → AreAnswered (resolved file) answers made certs → IsVerdictOn answers number Verified → ⊥
+  pub checked : (certs : List GoalCert) (answers : List Answer)
+      → IsCheckedFile (resolved file) certs answers → IsVerdictOn answers number Verified → ⊥
 
--- A procedure without its bound, in a file without a fault, is never verified.
+-- In a file without an error, a procedure whose bound does not hold is never reported as verified.
 abbrev pub BrokenBoundsAreNeverVerified : Type 0
-BrokenBoundsAreNeverVerified = (file : List Procedure) (number : ℕ) → first_fault file ≡ None → (Bound (resolved file) number → ⊥) → IsNeverVerified file number
+BrokenBoundsAreNeverVerified = (file : List Procedure) (number : ℕ) → first_fault file ≡ None
+    → (Bound (resolved file) number → ⊥) → IsNeverVerified file number
 
--- A violation was written, and nothing else, and it is one of the runs. The bytes that were read, of the file and of the script, are those
--- that the source holds where it tells them. They spell a file without a fault, in which a procedure has the name that was asked for, and it
--- and all that it reaches are programs; and a script for it. From the state in which the runs start, which is what the script sets and else
--- what the answers show, under the script's scheduler, the sum of reward and post over the runs of so many steps is above the pre, with fewer
--- steps it isn't. So no bound holds of the procedure, neither in this file nor in one that differs from it in the rules of its loops and
--- in places alone, and no answers on such a file say that it is verified.
-pub record IsRefutedFrom (name procedure script : List ℕ) (made : Call) (done : Writing) (outcome : Outcome) : Type 0 where
+-- A call of `refute` wrote a violation, and nothing else, and the runs have this violation.
+--
+-- The bytes that were read of the file and of the script are those that the source holds, if it
+-- reports them. They spell a file without an error, in which `procedure` names a procedure that is
+-- a program and reaches only programs, and a script for it. The runs start in the state that the
+-- script sets, with values from the answers for what it does not set, and follow the script's
+-- scheduler. Over the runs of `step` steps, the expected reward and post are above the pre; with
+-- fewer steps they are not. So the bound of the procedure holds neither in this file nor in any
+-- file that differs from it only in places and in the rules of its loops, and no answers on such a
+-- file report it as verified.
+pub record IsRefutedFrom (name procedure script : List ℕ) (made : Call) (done : Writing)
+    (outcome : Outcome) : Type 0 where
   pub bytes : List ℕ
   pub text : List ℕ
   pub read : AreRead (Files.two name script) made.names bytes text made.before made.after
@@ -64,11 +73,17 @@ pub record IsRefutedFrom (name procedure script : List ℕ) (made : Call) (done 
   pub sum : Value
   pub bound : Value
   pub numbers : AreOfRuns (resolved file) number start said.decisions step sum bound
-  pub no_bound : (other : List Procedure) → bare_procedures (resolved file) ≡ bare_procedures (resolved other) → Bound (resolved other) number → ⊥
-  pub unverified : (other : List Procedure) → bare_procedures (resolved file) ≡ bare_procedures (resolved other) → first_fault other ≡ None → IsNeverVerified other number
-  pub written : IsWritten (violated (procedure_at (resolved file) number).name step sum bound outcome.answers.items) done outcome
+  pub no_bound : (other : List Procedure)
+      → bare_procedures (resolved file) ≡ bare_procedures (resolved other)
+      → Bound (resolved other) number → ⊥
+  pub unverified : (other : List Procedure)
+      → bare_procedures (resolved file) ≡ bare_procedures (resolved other)
+      → first_fault other ≡ None → IsNeverVerified other number
+  pub written : IsWritten (violated
+      (procedure_at (resolved file) number).name step sum bound outcome.answers.items) done outcome
 
--- Where the status of `refute` is 1, it wrote a violation, of the bytes that were read.
+-- If the status of `refute` is 1, it wrote a violation, for the bytes that were read.
 abbrev pub ViolationsAreMeant : Call → Writing → Outcome → Type 0
 ViolationsAreMeant made done outcome =
-    (file procedure script : List ℕ) → AskFor made.words (Refute file procedure script) → outcome.status ≡ 1 → IsRefutedFrom file procedure script made done outcome
+    (file procedure script : List ℕ) → AskFor made.words (Refute file procedure script)
+    → outcome.status ≡ 1 → IsRefutedFrom file procedure script made done outcome

@@ -1,9 +1,11 @@
-//! The law that each command answers whatever it can.
+//! The law that each command gives its answer unless a device, a length limit or memory prevents
+//! it.
 
 ghost use Rattle.tool_laws.specs.Completeness.{CommandsAreComplete};
 
-/// Where the words ask for a command, neither the source nor the sink fails, nothing is too long, and there is memory, what the command
-/// says of the bytes that were read is written whole, with its answers and its status.
+/// If the arguments ask for a command, neither the source nor the sink fails, no file is too long
+/// and memory suffices, the command's reply to the bytes that were read is written as a whole, with
+/// its answers and its status.
 pub fn commands_are_complete()
     ensures { CommandsAreComplete }
 {}

@@ -1,11 +1,12 @@
-//! Laws of the faults of files that the commands tell.
+//! Laws of the errors of files that the commands report.
 
 ghost use Rattle.tool_laws.specs.FaultLaws.{StaticFaultsAreTold, ToldFaultsAreThere};
 
 use heyvl_syntax::sources_have_no_fault;
 use spelled_files::spelling_is_unique;
 
-/// Of bytes that spell a file with a static fault every command but `print` tells its first one, and nothing else.
+/// If the bytes spell a file with a static error, every command that reads HeyVL, except `print`,
+/// reports the first one and nothing else.
 pub fn static_faults_are_told()
     ensures { StaticFaultsAreTold }
 {
@@ -13,7 +14,8 @@ pub fn static_faults_are_told()
     spelling_is_unique();
 }
 
-/// A fault that a command tells is the first of the bytes, or the first static one of the file that they spell.
+/// An error that a command reports is the first of the bytes, or the first static one of the file
+/// that they spell.
 pub fn told_faults_are_there()
     ensures { ToldFaultsAreThere }
 {}

@@ -1,4 +1,4 @@
-//! Calls of the tool: what they come to and what their answers mean, as definitions, and their laws.
+//! Calls of the program: their outcomes, what their answers mean, and laws of both.
 #![tactic(auto)]
 
 mod completeness;

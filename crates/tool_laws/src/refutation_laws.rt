@@ -1,11 +1,12 @@
-//! The law that a violation refutes every verdict.
+//! The law that a violated bound is never reported as verified.
 
 ghost use Rattle.tool_laws.specs.Refutations.{BrokenBoundsAreNeverVerified};
 
 use resolved_laws::resolved_files_meet_the_rules;
 use verify_core::answers_keep_promises;
 
-/// In a file without a fault, no answers, by decisions or by certificates, say of a procedure without its bound that it is verified.
+/// In a file without an error, no answers by decisions or by certificates report a procedure as
+/// verified whose bound does not hold.
 pub fn broken_bounds_are_never_verified()
     ensures { BrokenBoundsAreNeverVerified }
 {

@@ -1,12 +1,13 @@
-//! The law of how many names of a source are started.
+//! The law of the number of names that are started.
 
 ghost use Rattle.tool_laws.specs.StartLaws.{StartsAreCounted};
 
 use heyvl_io::names_in_order;
 
-/// Of a source that tells its order, has started nothing, and whose first names are those of the words, none is started where the
-/// words are no command, or those of a command without files; the file where it can't be read or is too long; both where the second
-/// text can't be or is; and nothing else ever.
+/// Assume that a source reports the order of its starts, has started nothing, and has the files of
+/// the arguments as its first names. It then starts no name if the arguments are not a valid
+/// command or those of a command without files; the first file if that one cannot be read or is too
+/// long; both files if the second one cannot be read or is too long; and never another name.
 pub fn starts_are_counted()
     ensures { StartsAreCounted }
 {

@@ -1,4 +1,4 @@
--- What the bounds of `omega` and `remainder` mean, from the reply that a call made.
+-- The meaning of the bounds of `omega` and `remainder`, from the reply of a call.
 use Rattle.heyvl_acts.specs.Acts.{TypedProcedure}
 use Rattle.tool_laws.proofs.exported.CallLemmas.{came_to}
 use Rattle.tool_laws.proofs.LowStatuses.{SaidTyped, came_low, status_is, written_low}
@@ -27,7 +27,7 @@ low n e = omega (arith, e)
 
 -- ---- Omega pairs
 
--- An answer whose reply has the status 0 is that the pair holds.
+-- If the reply has the status 0, the answer is that the pair holds.
 omega_holds : (bytes : List ℕ) (ps : List TypedProcedure) (p q : ℕ) (done : Writing) (outcome : Outcome) (reply : Reply) (answer : Omega) (text : List ℕ) → (answer ≡ omega_answers.Holds → OmegaHolds ps p q) → IsOmegaText bytes ps p q answer text
     → reply ≡ omega_reply answer text → reply.status ≡ 0 → IsWritten reply done outcome → HoldsOmega done outcome ps p q
 omega_holds bytes ps p q done outcome reply omega_answers.Holds text meant is e none written =
@@ -82,7 +82,6 @@ remainder_pair file procedure name made done outcome reply none written f (IsRem
 
 -- ---- The clause
 
--- Where a reply has its cause, was delivered, and its outcome has the status 0, the bound holds.
 pub bounds_meant : (made : Call) (done : Writing) (outcome : Outcome) (reply : Reply) → HasCause made reply → IsDelivered reply done outcome → BoundsAreMeant made done outcome
 bounds_meant made done outcome reply cause delivered = record {
   invariants = λ file procedure name asks none.

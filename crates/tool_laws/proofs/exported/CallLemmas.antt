@@ -1,4 +1,4 @@
--- How a reply has its cause, from what reading gave; and what the words ask for.
+-- The cause of a reply, from the results of reading; and the command that arguments ask for.
 use Rattle.heyvl_io.proofs.exported.Histories.{length-since_start}
 use Rattle.heyvl_io.specs.Faults.{Rose}
 use Rattle.heyvl_io.specs.History.{History, IsTaken, since_start}
@@ -29,9 +29,8 @@ use Rattle.std.specs.Prelude.{IsErrOf, if◌then◌else◌, nat_lt, ◌↔◌}
 use Rattle.std.specs.Str.{bytes_eq}
 use Rattle.std.specs.declared.alloc.AllocError.{AllocError}
 
--- ---- What the words ask for
+-- ---- The command that arguments ask for
 
--- The command of its words.
 settings_of : List (List ℕ) → Settings
 settings_of (w ∷ f ∷ []) = if bytes_eq w (codes "verify") then Verify f else (if bytes_eq w (codes "print") then Print f else (if bytes_eq w (codes "certify") then Certify f else (if bytes_eq w (codes "pgcl") then Pgcl f else Gen (digits_value 10 f))))
 settings_of (w ∷ f ∷ g ∷ []) = Check f g
@@ -54,26 +53,23 @@ settings_again (Omega f g h) fits = refl
 settings_again (Remainder f g h) fits = refl
 settings_again (Refute f g h) fits = refl
 
--- The words ask for one thing.
 pub same_settings : (words : List (List ℕ)) (s t : Settings) → AskFor words s → AskFor words t → s ≡ t
 same_settings words s t asks also = sym (settings_again s asks.fits) ∙ (ap settings_of (sym asks.words_are ∙ also.words_are) ∙ settings_again t also.fits)
 
 -- ---- Reading
 
--- What is said once a text was read is the answer from its reading on.
 pub text_said : (k : ℕ) (names : Names) (name bytes lent : List ℕ) (Says : List ℕ → Reply → Type 0) (before after : Moment) (r : Result Response AllocError) → lent ≡ bytes → IsRead names name bytes before after
     → IfOk r (λ x. Says lent (reply_of x)) → IfOk r (λ x. IsReadReply k names name (λ text now s. IsSaid (Says text) now after s) before after (reply_of x))
 text_said k names name bytes lent Says before after (Ok x) is read said = by_bytes after bytes read (refl, subst (λ (bs : List ℕ). Says bs (reply_of x)) is said)
 text_said k names name bytes lent Says before after (Err e) is read said = tt
 
--- Of a command with one file.
 pub one_said : (settings : Settings) (names : Names) (name bytes lent none : List ℕ) (before after : Moment) (r : Result Response AllocError) → lent ≡ bytes → none ≡ [] → IsRead names name bytes before after
     → IfOk r (λ x. IsReplyTo settings lent none (reply_of x)) → IfOk r (λ x. IsFilesReply (Files.one name) (IsReplyTo settings) names before after (reply_of x))
 one_said settings names name bytes lent none before after r is empty read said =
     subst (λ (ns : List ℕ). IfOk r (λ x. IsReadReply 0 names name (λ bs now s. IsSaid (IsReplyTo settings bs ns) now after s) before after (reply_of x))) empty
     (text_said 0 names name bytes lent (λ bs. IsReplyTo settings bs none) before after r is read said)
 
--- Of a command with two files, when the first was read.
+-- The second file is started after the first one was read.
 pub two_said : (settings : Settings) (names later : Names) (file second bytes lent : List ℕ) (before between after : Moment) (r : Result Response AllocError) → later ≡ names → lent ≡ bytes → IsRead names file bytes before between
     → IfOk r (λ x. IsReadReply 1 later second (λ text now s. IsSaid (IsReplyTo settings lent text) now after s) between after (reply_of x))
     → IfOk r (λ x. IsFilesReply (Files.two file second) (IsReplyTo settings) names before after (reply_of x))
@@ -83,11 +79,9 @@ two_said settings names later file second bytes lent before between after (Ok x)
     (subst (λ (bs : List ℕ). IsReadReply 1 later second (λ text now s. IsSaid (IsReplyTo settings bs text) now after s) between after (reply_of x)) is said))
 two_said settings names later file second bytes lent before between after (Err e) same is read said = tt
 
--- Both were started then.
 pub two_started : (names later : Names) (file second : List ℕ) (before between after : Moment) → later ≡ names → IsStartedOnce names file before between → IsStartedOnce later second between after → IsReadInTurn (Files.two file second) names before after
 two_started names later file second before between after same first next = inr (between, first, subst (λ (ns : Names). IsStartedOnce ns second between after) same next)
 
--- The files are those of the command.
 pub files_said : (settings : Settings) (files other : Files) (names : Names) (before after : Moment) (r : Result Response AllocError) → files ≡ other → IfOk r (λ x. IsFilesReply files (IsReplyTo settings) names before after (reply_of x))
     → IfOk r (λ x. IsFilesReply other (IsReplyTo settings) names before after (reply_of x))
 files_said settings files other names before after r same = subst (λ (fs : Files). IfOk r (λ x. IsFilesReply fs (IsReplyTo settings) names before after (reply_of x))) same
@@ -95,7 +89,6 @@ files_said settings files other names before after r same = subst (λ (fs : File
 pub files_started : (files other : Files) (names : Names) (before after : Moment) → files ≡ other → IsReadInTurn files names before after → IsReadInTurn other names before after
 files_started files other names before after same = subst (λ (fs : Files). IsReadInTurn fs names before after) same
 
--- Where it isn't one byte more that was handed out than a file may have, it is no more than that.
 not_long : (n : ℕ) → n ≤ file_limit + 1 → (n ≡ file_limit + 1 → ⊥) → n ≤ file_limit
 not_long n few differs = by (nat_lt n (file_limit + 1)) refl
   where
@@ -113,7 +106,6 @@ few_taken before after name taken differs = record {
 same_stop : {A : Type 0} (all : Result A ReadStop) (stop other : ReadStop) → all ≡ Err stop → all ≡ Err other → stop ≡ other
 same_stop {A = A} all stop other e f = let same : ◌≡◌ {A = Result A ReadStop} (Err stop) (Err other) = sym e ∙ f in cc
 
--- The reply where a name wasn't read to its end is the answer from its reading on.
 pub read_refused : {A : Type 0} (k : ℕ) (names : Names) (name : List ℕ) (Says : List ℕ → Moment → Reply → Type 0) (before after : Moment) (all : Result A ReadStop) (stop : ReadStop) (r : Result Response AllocError) → all ≡ Err stop
     → after.order ≡ order_after names.order name before.order → IsTaken before.history after.history name (file_limit + 1) → (IsErrOf all stops.Failed → Rose before.faults after.faults)
     → (IsErrOf all stops.TooLong ↔ (length (since_start after.history) ≡ file_limit + 1)) → (IsErrOf all stops.TooLong → IfSome (names.holds name) (λ held. file_limit < length held))
@@ -128,9 +120,10 @@ read_refused k names name Says before after all stops.TooLong (Ok x) is order ta
 read_refused k names name Says before after all (stops.Memory error) (Ok x) is order taken rose long longer said = absurd said
 read_refused k names name Says before after all stop (Err e) is order taken rose long longer said = tt
 
--- ---- What a command came to
+-- ---- The ways in which a command may end
 
--- The source failed; or a text was too long; or the files were read, and this was said of their bytes.
+-- The source failed, or a file was too long, or the files were read and the reply is the one to
+-- their bytes.
 pub data CameTo (settings : Settings) (files : Files) (made : Call) (reply : Reply) : Type 0 where
   failed : (k : ℕ) → Rose made.before.faults made.after.faults → reply ≡ read_fault k → CameTo settings files made reply
   too_long : (k : ℕ) → length (since_start made.after.history) ≡ file_limit + 1 → reply ≡ file_too_long k → CameTo settings files made reply
@@ -159,7 +152,6 @@ came_from settings (Files.two file second) made reply (by_source started rose e)
 came_from settings (Files.two file second) made reply (by_length is e) = too_long 0 (long_taken made.names file made.before made.after is) e
 came_from settings (Files.two file second) made reply (by_bytes between bytes read rest) = second_came settings file second bytes made between reply read rest
 
--- What a reply that has its cause came from, where the words ask for a command.
 pub came_to : (settings : Settings) (made : Call) (reply : Reply) → AskFor made.words settings → HasCause made reply → CameTo settings (files_of settings) made reply
 came_to settings made reply asks (by_words usage e) = absurd (usage settings asks)
 came_to settings made reply asks (by_command other asked read) =

@@ -1,4 +1,4 @@
--- What the answers of an outcome mean, from the reply that a call made.
+-- The meaning of the answers of an outcome, from the reply of a call.
 use Rattle.tool_laws.proofs.exported.CallLemmas.CameTo.{failed, said, too_long}
 use Rattle.tool_laws.proofs.exported.CallLemmas.{CameTo, came_to}
 use Rattle.tool_laws.proofs.CommandReplies.{IsKnownReply, Promised, no_message, reply_known}
@@ -36,6 +36,5 @@ from_came settings made done outcome reply (said bytes second read replied) deli
       headline = subst (λ (as' : List Answer). IsHeadline (resolved p.file) as') (sym delivered.answers) p.headline;
     }
 
--- Where a reply has its cause and was delivered, its answers are those on the bytes that were read.
 pub answers_meant : (made : Call) (done : Writing) (outcome : Outcome) (reply : Reply) → HasCause made reply → IsDelivered reply done outcome → AnswersAreMeant made done outcome
 answers_meant made done outcome reply cause delivered settings asks some = from_came settings made done outcome reply (came_to settings made reply asks cause) delivered some

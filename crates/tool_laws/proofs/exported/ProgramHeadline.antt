@@ -1,4 +1,4 @@
--- What the file that `pgcl` writes means, from the reply that a call made.
+-- The meaning of the file that `pgcl` writes, from the reply of a call.
 use Rattle.spelled_files.specs.Programs.{IsProgramFile, KeepsSumsOf, ProgramFilesHaveSums, program_of}
 use Rattle.heyvl_syntax.specs.Grammar.{Spells}
 use Rattle.heyvl_syntax.specs.Procedures.{Procedure}
@@ -19,7 +19,6 @@ use Rattle.tool_laws.specs.declared.outcomes.Outcome.{Outcome}
 use Rattle.command_words.specs.declared.requests.Settings.TheVariants.{Pgcl}
 use Rattle.std.proofs.Common.{List, refl, subst, sym, ◌∙◌, ◌≡◌, ℕ}
 
--- The file that bytes become, and that its text is the reply.
 record Translated (bytes : List ℕ) (reply : Reply) : Type 0 where
   file : List Procedure
   becomes : IsProgramFile bytes file
@@ -29,7 +28,8 @@ translated_by : (bytes : List ℕ) (reply : Reply) → reply.fault ≡ faults.No
 translated_by bytes reply finished (by_fault number place fault e) = absurd (no_source number place (fault_is reply _ faults.Nothing e finished))
 translated_by bytes reply finished (by_file file is e) = record { file = file; becomes = is; told = e }
 
--- Where a call says of the text of a file with the sums of a program that `main` is verified, its bound is the program's.
+-- If a call verifies the text of a file with the sums of a program and reports `main` as verified,
+-- its bound is one of the program.
 bounded_where_verified : (bytes : List ℕ) (file : List Procedure) (p : IsProgramFile bytes file) → KeepsSumsOf (program_of bytes file p) file → IsBoundWhereVerified bytes file p
 bounded_where_verified bytes file p sums settings later end told v same main =
     let spelled = subst (λ (text : List ℕ). IsSource text v.file) same v.spelled in
@@ -59,7 +59,6 @@ from_came summed translated name made done outcome reply finished written (said 
       verified = bounded_where_verified bytes t.file t.becomes sums;
     }
 
--- Where a reply to `pgcl` has its cause, was delivered, and has no fault, its text is that of a file with the program's sums.
 pub programs_meant : ProgramFilesHaveSums → ProgramsAreTranslated → (made : Call) (done : Writing) (outcome : Outcome) (reply : Reply) → HasCause made reply → IsDelivered reply done outcome → ProgramsAreMeant made done outcome
 programs_meant summed translated made done outcome reply cause delivered name asks finished =
     from_came summed translated name made done outcome reply finished (written_whole reply done outcome finished delivered.delivered) (came_to (Pgcl name) made reply asks cause)

@@ -1,4 +1,4 @@
--- What the violations of `refute` mean, from the reply that a call made.
+-- The meaning of the violations of `refute`, from the reply of a call.
 use Rattle.heylo_formula.specs.declared.values.Val.{Val}
 use Rattle.heyvl_acts.specs.Acts.{TypedProcedure, procedure_at}
 use Rattle.heyvl_num.specs.ExtendedNumbers.{value_of}
@@ -32,14 +32,13 @@ use Rattle.verdict_report.specs.declared.answers.Answer.{Answer}
 low : (n : ℕ) → n ≡ 1 → n ≤ 2
 low n e = omega (arith, e)
 
--- What stopped the runs has another status.
 stopped_status : (stopped : Unrolled) → (run_reply stopped).status ≡ 1 → ⊥
 stopped_status (answers.Sums sums) e = omega (arith, e)
 stopped_status (answers.Full step) e = omega (arith, e)
 stopped_status (answers.Deep step) e = omega (arith, e)
 stopped_status (answers.Bits step) e = omega (arith, e)
 
--- A violation, with its step and its numbers, of these procedures.
+-- A violation in these procedures, with its step and its numbers.
 record Violated (ps : List TypedProcedure) (p : ℕ) (s : Script) (start : List Val) (said : List Answer) (reply : Reply) : Type 0 where
   step : ℕ
   few : step ≤ s.steps
@@ -93,7 +92,6 @@ refuted_by never name procedure script made done outcome reply one written same 
       written = subst (λ (r : Reply). IsWritten r done outcome) (v.told ∙ ap (violated (procedure_at (resolved f.file) p).name v.step v.sum v.bound) (sym same)) written;
     }
 
--- Where a reply to `refute` has its cause, was delivered, and its outcome has the status 1, it is a violation of the runs.
 pub violations_meant : BrokenBoundsAreNeverVerified → (made : Call) (done : Writing) (outcome : Outcome) (reply : Reply) → HasCause made reply → IsDelivered reply done outcome → ViolationsAreMeant made done outcome
 violations_meant never made done outcome reply cause delivered name procedure script asks is_one =
     let written = written_low reply done outcome (low outcome.status is_one) delivered.delivered in

@@ -1,4 +1,4 @@
--- What the numbers of a run mean, from the reply that a call made.
+-- The meaning of the numbers of `run`, from the reply of a call.
 use Rattle.heyvl_acts.specs.Acts.{TypedProcedure, procedure_at}
 use Rattle.heyvl_acts.specs.Rules.{Each, MeetsRules}
 use Rattle.heyvl_places.specs.declared.spans.Span.{Span}
@@ -34,9 +34,8 @@ use Rattle.run_unroller.specs.declared.answers.Unrolled.TheVariants as answers
 use Rattle.run_unroller.specs.declared.answers.Unrolled.{Unrolled}
 use Rattle.std.proofs.Common.{List, None, Option, Some, [], ap, inl, inr, refl, subst, sym, ◌∙◌, ◌∷◌, ◌≡◌, ◌⊎◌, ℕ}
 
--- ---- No other reply has nothing in its way
+-- ---- Every other reply has a fault
 
--- The reply has the fault of what it is.
 pub fault_is : (reply other : Reply) (f : Fault) → reply ≡ other → reply.fault ≡ f → other.fault ≡ f
 fault_is reply other f e h = sym (ap (λ (r : Reply). r.fault) e) ∙ h
 
@@ -64,9 +63,9 @@ no_stop stopped e = cc
 no_write : faults.Write ≡ faults.Nothing → ⊥
 no_write e = cc
 
--- ---- What a run came to
+-- ---- The result of a run
 
--- The sums, where nothing stopped the run.
+-- The sums of a run that was not stopped.
 record Told (ps : List TypedProcedure) (p : ℕ) (s : Script) (reply : Reply) : Type 0 where
   numbers : Totals
   unrolls : runs_by ps p s ≡ Unrolling.sums numbers
@@ -78,7 +77,7 @@ told_by ps p s reply (answers.Full step) unrolls e finished = absurd (no_stop (a
 told_by ps p s reply (answers.Deep step) unrolls e finished = absurd (no_stop (answers.Deep step) (fault_is reply _ faults.Nothing e finished))
 told_by ps p s reply (answers.Bits step) unrolls e finished = absurd (no_stop (answers.Bits step) (fault_is reply _ faults.Nothing e finished))
 
--- What is said of a procedure and a script in a file with these typed procedures.
+-- The sums for a procedure and a script in a file with these typed procedures.
 record Summed (ps : List TypedProcedure) (procedure text : List ℕ) (reply : Reply) : Type 0 where
   number : ℕ
   named : procedure_named procedure ps ≡ Some number
@@ -107,7 +106,7 @@ run_summed meant ps rules procedure text reply finished (by_run s read p named p
       told = t.told;
     }
 
--- The file that bytes spell, and what is said of its run.
+-- The file that the bytes spell, and the sums of its run.
 record Spelled (procedure bytes text : List ℕ) (reply : Reply) : Type 0 where
   file : List Procedure
   spelled : IsSource bytes file
@@ -122,9 +121,9 @@ replied_summed : UnrolledSumsAreMeant → ResolvedProceduresMeetRules → (proce
 replied_summed meant ruled procedure bytes text reply finished (by_fault number place fault e) = absurd (no_source number place (fault_is reply _ faults.Nothing e finished))
 replied_summed meant ruled procedure bytes text reply finished (by_file file is none told) = record { file = file; spelled = is; faultless = none; summed = run_summed meant (resolved file) (ruled file (nothing_found (file_findings file) none)) procedure text reply finished told }
 
--- ---- What a call came to
+-- ---- The outcome of a call
 
--- An outcome without a fault was written whole, and its reply has none.
+-- If an outcome has no fault, it was written as a whole, and its reply has none.
 pub written_whole : (reply : Reply) (done : Writing) (outcome : Outcome) → outcome.fault ≡ faults.Nothing → IsWritten reply done outcome ⊎ IsCut reply done outcome → IsWritten reply done outcome
 written_whole reply done outcome finished (inl written) = written
 written_whole reply done outcome finished (inr cut) = absurd (no_write (sym cut.fault ∙ finished))
@@ -153,7 +152,6 @@ from_came meant ruled name procedure script made done outcome reply finished wri
       written = subst (λ (r : Reply). IsWritten r done outcome) s.told written;
     }
 
--- Where a reply to `run` has its cause, was delivered, and has no fault, its numbers are sums over runs.
 pub sums_meant : UnrolledSumsAreMeant → ResolvedProceduresMeetRules → (made : Call) (done : Writing) (outcome : Outcome) (reply : Reply) → HasCause made reply → IsDelivered reply done outcome → SumsAreMeant made done outcome
 sums_meant meant ruled made done outcome reply cause delivered name procedure script asks finished =
     from_came meant ruled name procedure script made done outcome reply finished (written_whole reply done outcome finished delivered.delivered) (came_to (Run name procedure script) made reply asks cause)
