@@ -1,4 +1,4 @@
--- A text without a fault has none, and spells one file.
+-- A text without an error spells one file, and has no error.
 use Rattle.generated_files.specs.Laws.{IsFaultless}
 use Rattle.generated_files.specs.Texts.{generated_text}
 use Rattle.command_rules.specs.Reports.{IsSummary}
@@ -36,11 +36,9 @@ no_fault clean unique n bytes is number place (spelling fault) = clean bytes is.
 no_fault clean unique n bytes is number place (static other also found) =
     none_is_no_fault (number, place) (sym is.none ∙ (ap first_fault (same_file unique bytes is.file other is.source also) ∙ found))
 
--- The file of its typed tree has a procedure for each line.
 pub counted : SpellingIsUnique → (n : ℕ) (bytes : List ℕ) → IsFaultless n bytes → (other : List Procedure) → IsSource bytes other → length other ≡ n
 counted unique n bytes is other also = ap length (same_file unique bytes other is.file also is.source) ∙ is.count
 
--- What is made of a generated text, from what its parts say.
 pub reported : SpellingIsUnique → (n : ℕ) (bytes lent : List ℕ) (typed : Typed) (answers lent_answers : List Answer) (made : List NamedGoal) (certs : List GoalCert) (text : List ℕ) →
     IsFaultless n (generated_text n) → lent ≡ bytes → bytes ≡ generated_text n → IsTypedSource lent typed →
     AreAnswered (procedures_of typed) answers made certs → IsHeadline (procedures_of typed) answers → lent_answers ≡ answers → text ≡ summary n lent_answers → IsSummary n answers text

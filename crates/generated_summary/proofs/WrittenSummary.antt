@@ -1,4 +1,4 @@
--- The summary as it is put together.
+-- The text of a summary, from its parts.
 use Rattle.command_rules.specs.Summaries.{how_many, is_not_verified, is_other, is_verified, summary}
 use Rattle.std.proofs.Common.{List, append_assoc, codes, decimal, refl, ◌++◌, ◌≡◌, ℕ}
 use Rattle.verdict_report.specs.declared.answers.Answer.{Answer}

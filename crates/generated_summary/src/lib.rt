@@ -1,4 +1,6 @@
 //! The answers on generated texts, and their summary.
+//!
+//! `AllocError` means that memory ran out.
 #![tactic(auto)]
 
 mod reports;

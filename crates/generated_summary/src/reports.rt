@@ -22,7 +22,7 @@ pub struct Summary {
     pub text: Vec<u8>,
 }
 
-/// The typed tree of a generated text of so many lines, which has no fault.
+/// Returns the typed tree of the generated text of `lines` lines, which has no error.
 fn typed_text(alloc: Global, lines: u32, text: &[u8]) -> Result<Typed, AllocError>
     requires within { lines ≤ procedure_limit }
     requires made { text.now ≡ generated_text lines }
@@ -39,7 +39,7 @@ fn typed_text(alloc: Global, lines: u32, text: &[u8]) -> Result<Typed, AllocErro
     }
 }
 
-/// The answers on the generated text of so many lines, at most 1,024, and their summary. Want of memory is the one error.
+/// Returns the answers on the generated text of `lines` lines, at most 1,024, and their summary.
 pub fn summarize(alloc: Global, lines: u32) -> Result<Summary, AllocError>
     requires { lines ≤ procedure_limit }
     ensures { IfOk result (λ made. IsSummary lines made.answers.items made.text.items) }

@@ -1,6 +1,7 @@
 //! The summary of answers.
 
-ghost use Rattle.command_rules.specs.Summaries.{how_many, is_not_verified, is_other, is_verified, summary};
+ghost use Rattle.command_rules.specs.Summaries.{how_many, is_not_verified, is_other, is_verified};
+ghost use Rattle.command_rules.specs.Summaries.{summary};
 ghost use Rattle.std.specs.Prelude.{IfOk, OnOk, decimal, ◌++◌, ◌≡◌};
 
 use number_texts::write_number;
@@ -52,7 +53,7 @@ fn others(answers: &[Answer]) -> usize
         .count()
 }
 
-/// Puts a number and what is counted behind the text.
+/// Appends a number and the text `counted`.
 fn write_count(text: &mut Vec<u8>, count: usize, counted: &[u8]) -> Result<(), AllocError>
     ensures { OnOk result (text.new.items ≡ text.old.items ++ (decimal count ++ counted.now)) }
 {
@@ -60,7 +61,7 @@ fn write_count(text: &mut Vec<u8>, count: usize, counted: &[u8]) -> Result<(), A
     text.extend_from_slice(counted)
 }
 
-/// The summary of the answers on so many lines.
+/// Returns the summary of the answers on a generated text of `lines` lines.
 pub(crate) fn summary(alloc: Global, lines: u32, answers: &[Answer]) -> Result<Vec<u8>, AllocError>
     ensures { IfOk result (λ text. text.items ≡ summary lines answers.now) }
 {
