@@ -1,4 +1,4 @@
--- What a report asks of the answers that certificates give.
+-- The answers by certificates satisfy the requirements of a report.
 use Rattle.goal_answers.specs.declared.trees.GoalCert.{GoalCert}
 use Rattle.heyvl_acts.specs.PlainActs.{procedure_of, procedures_of}
 use Rattle.heyvl_acts.specs.Rules.{Each, MeetsAllRules}
@@ -11,7 +11,6 @@ use Rattle.verdict_report.specs.PlacedAnswers.{CanReport, IsAnswerPlaced}
 use Rattle.verdict_report.specs.declared.answers.Answer.{Answer}
 use Rattle.verify_core.specs.CheckedAnswers.{IsCheckedFile}
 
--- The answers of a file can be reported.
 pub can_report_checked : (bytes : List ℕ) (tree : Typed) (certs : List GoalCert) (answers : List Answer) → length bytes < 2 ^ 31 → MeetsAllRules tree → IsCheckedFile (procedures_of tree) certs answers
     → Each (IsAnswerPlaced (length bytes) (length tree.procs.items)) answers → CanReport bytes tree answers
 can_report_checked bytes tree certs answers short rules checked placed = record {

@@ -1,4 +1,5 @@
--- What is said of two procedures, from what its parts say; and that it is the one thing that is said of a file without a fault.
+-- Replies about two procedures, from the results of the parts of a command; and that a file has
+-- only one such reply.
 use Rattle.heyvl_acts.specs.Acts.{Acts, TypedProcedure, procedure_at}
 use Rattle.heyvl_acts.specs.Places.{in_order}
 use Rattle.heyvl_acts.specs.Program.{IsProgram}
@@ -27,7 +28,7 @@ use Rattle.verdict_report.specs.declared.answers.RankVerdict.TheVariants.{Ranked
 use Rattle.verdict_report.specs.declared.answers.Verdict.TheVariants.{Verified}
 use Rattle.verify_core.specs.Headline.{IsHeadline}
 
--- ---- Where a state or a cause is told, there is a pair
+-- ---- If a state or a cause is shown, there is a pair
 
 pub omega_has_pair : (ps : List TypedProcedure) (p q : ℕ) (answer : Omega) → IsOmegaAnswer ps p q answer → omega_texts.HasPair ps p q answer
 omega_has_pair ps p q omega_answers.Holds is = tt
@@ -43,7 +44,7 @@ remainder_has_pair ps answers p q (remainder_answers.Fails s) is = is.pair
 remainder_has_pair ps answers p q (remainder_answers.Unknown cause) is = is.pair
 remainder_has_pair ps answers p q remainder_answers.Shape is = tt
 
--- ---- What the answers of `verify` give
+-- ---- Facts from the answers of `verify`
 
 record HasBody (p : TypedProcedure) : Type 0 where
   pub acts : Acts
@@ -62,7 +63,7 @@ weak_goals acts = BoundGoal.main ∷ (BoundGoal.pre ∷ (BoundGoal.post ∷ map 
 goals_of_weak : (p : TypedProcedure) (acts : Acts) → p.body ≡ Some acts → p.weak ≡ true → bound_goals p ≡ weak_goals acts
 goals_of_weak p acts e w = subst (λ b. bound_goals (record p { body = b }) ≡ weak_goals acts) (sym e) (subst (λ v. bound_goals (record p { body = Some acts; weak = v }) ≡ weak_goals acts) (sym w) refl)
 
--- The bound of a weak program that is verified, with its post at most 1.
+-- The bound of a program with `@wlp` that is verified, whose post is at most 1.
 pub gives_bound : (ps : List TypedProcedure) (answers : List Answer) (p : ℕ) → IsHeadline ps answers → IsVerdictOn answers p Verified → (procedure_at ps p).weak ≡ true → IsProgram (procedure_at ps p) → HasSmallBound ps p
 gives_bound ps answers p h is weak program =
     let q = procedure_at ps p in
@@ -72,7 +73,7 @@ gives_bound ps answers p h is weak program =
 pub gives_turns : (ps : List TypedProcedure) (answers : List Answer) (p n : ℕ) → IsHeadline ps answers → IsVerdictOnLoop answers p n Ranked → HasBoundedTurns ps p n
 gives_turns ps answers p n h is = let r = h.ranked p n is in record { loop = r.loop; turns = r.turns }
 
--- ---- One thing is said
+-- ---- There is only one reply
 
 no_pair : (ps : List TypedProcedure) (procedure name : List ℕ) (p q : ℕ) → procedure_named procedure ps ≡ Some p → procedure_named name ps ≡ Some q → (procedure_named procedure ps ≡ None) ⊎ (procedure_named name ps ≡ None) → ⊥
 no_pair ps procedure name p q first second (inl none) = let no : ◌≡◌ {A = Option ℕ} None (Some p) = sym none ∙ first in cc

@@ -1,4 +1,4 @@
--- What is said of a program of guarded commands, from what its parts say.
+-- Replies to a program of guarded commands, from the results of the parts of `pgcl`.
 use Rattle.spelled_files.specs.Programs.{IsProgramFile, IsProgramStop, ProgramFaultIsUnique, ProgramFileIsUnique, ProgramFilesAreSpelled, ProgramFilesHaveNoFault}
 use Rattle.spelled_files.specs.declared.stops.SourceStop.TheVariants.{Fault, Memory}
 use Rattle.spelled_files.specs.declared.stops.SourceStop.{SourceStop}
@@ -15,12 +15,10 @@ use Rattle.command_rules.specs.Refusals.{IsRefusal}
 use Rattle.std.proofs.Common.{Err, IfOk, List, Ok, Result, ap, subst, sym, ◌∙◌, ◌≡◌, ℕ}
 use Rattle.std.specs.declared.alloc.AllocError.{AllocError}
 
--- The text of the file that it becomes is what is said of a program without a fault.
 pub program_said : (bytes : List ℕ) (file : List Procedure) (r : Result Response AllocError) → IsProgramFile bytes file → IfOk r (λ x. reply_of x ≡ printed file) → IfOk r (λ x. IsPgclReply bytes (reply_of x))
 program_said bytes file (Ok x) is said = by_file file is said
 program_said bytes file (Err e) is said = tt
 
--- And the line on its first fault of another.
 pub program_refused : (bytes : List ℕ) (stop : SourceStop) (r : Result Response AllocError) → IsProgramStop bytes stop → IfOk r (λ x. IsRefusal bytes stop (reply_of x)) → IfOk r (λ x. IsPgclReply bytes (reply_of x))
 program_refused bytes (Fault number place) (Ok x) is said = by_fault number place is said
 program_refused bytes (Memory error) (Ok x) is said = absurd said

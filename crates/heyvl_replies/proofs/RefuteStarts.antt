@@ -1,4 +1,5 @@
--- Where the runs of `refute` start, and that one thing is said of a file without a fault and of a script.
+-- The state in which the runs of `refute` start, and that there is only one reply to a file without
+-- an error and a script.
 use Prim.Native.Nat.{suc, zero}
 use Rattle.goal_answers.specs.declared.named_goals.NamedGoal.{NamedGoal}
 use Rattle.goal_answers.specs.declared.trees.GoalCert.{GoalCert}
@@ -26,7 +27,6 @@ use Rattle.verdict_report.specs.declared.answers.Answer.{Answer}
 use Rattle.verify_core.specs.AnsweredProcedures.{AreAnswered}
 use Rattle.verify_core.specs.Headline.{IsHeadline}
 
--- What the answer at a place shows is what the answers show there.
 pub shown_is : (answers : List Answer) (p : ℕ) (x : Answer) → p < length answers → x ≡ get_or answers p x → shown_by x.verdict ≡ shown_of answers p
 shown_is [] p x lt is = absurd (omega (arith, lt))
 shown_is (y ∷ rest) zero x lt is = ap (λ (a : Answer). shown_by a.verdict) is
@@ -35,7 +35,7 @@ shown_is (y ∷ rest) (suc p) x lt is = shown_is rest p x (omega (arith, lt)) is
 pub starts_at : (p q : TypedProcedure) (a b : List Setting) (s t : List Val) → p ≡ q → a ≡ b → s ≡ t → start_state_over p a s ≡ start_state_over q b t
 starts_at p q a b s t e f g = ap (λ x. start_state_over x a s) e ∙ (ap (λ x. start_state_over q x s) f ∙ ap (λ x. start_state_over q b x) g)
 
--- What is said of a search, with answers.
+-- The reply to a search, with answers.
 module _ (ps : List TypedProcedure) (p : ℕ) (s : Script) (said : List Answer) (made : List NamedGoal) (certs : List GoalCert) (are : AreAnswered ps said made certs) (promised : IsHeadline ps said) where
   tells_by : (answer : Refuted) → IsRefutedAnswer ps p (refute_start ps p s said) s.decisions s.steps answer → ViolationIsOfRuns ps p (refute_start ps p s said) s.decisions answer
       → NumbersAreOfRuns ps p (refute_start ps p s said) s.decisions s.steps answer → TellsRefuted ps p s (refuted_reply (procedure_at ps p).name s.steps said answer)

@@ -1,4 +1,4 @@
--- What a report and the answers ask of a typed file.
+-- A typed file satisfies the requirements of a report and of its answers.
 use Rattle.goal_answers.specs.declared.trees.GoalCert.{GoalCert}
 use Rattle.heyvl_replies.proofs.SaidOfFiles.{one_for_each}
 use Rattle.spelled_files.specs.Sources.{file_limit}
@@ -13,11 +13,9 @@ use Rattle.verdict_report.specs.declared.answers.Answer.{Answer}
 use Rattle.goal_answers.specs.declared.named_goals.NamedGoal.{NamedGoal}
 use Rattle.verify_core.specs.AnsweredProcedures.{AreAnswered}
 
--- The bytes of a file are few enough to be counted.
 pub short_bytes : (bytes : List ℕ) → length bytes ≤ file_limit → length bytes < 2 ^ 31
 short_bytes bytes short = omega (arith, short)
 
--- The answers of a file can be reported.
 pub can_report : (bytes : List ℕ) (tree : Typed) (answers : List Answer) (made : List NamedGoal) (certs : List GoalCert) → length bytes < 2 ^ 31 → MeetsAllRules tree
     → AreAnswered (procedures_of tree) answers made certs → Each (IsAnswerPlaced (length bytes) (length tree.procs.items)) answers → CanReport bytes tree answers
 can_report bytes tree answers made certs short rules answered placed = record {

@@ -1,4 +1,4 @@
--- Worked replies of `run`: the rows of its answer, in their order, on a file of four procedures.
+-- Worked replies of `run`: the cases of its reply in their order, for a file of four procedures.
 use Rattle.heylo_formula.specs.Formula.{Form, Term}
 use Rattle.heylo_formula.specs.declared.types.Ty.{Ty}
 use Rattle.heyvl_num.specs.Exact.{exact_order, exact_product, exact_sum, order_fits, product_fits, sum_fits}
@@ -48,14 +48,15 @@ body acts = Some (listed acts)
     listed [] = Acts.done
     listed (act ∷ rest) = Acts.next act (listed rest)
 
--- A coproc over one output x of UInt, whose post is x.
+-- A coproc with one output x of UInt, whose post is x.
 abbrev over_x : List ℕ → Option Acts → TypedProcedure
 over_x name acts = record { name = name; co = true; weak = false; inputs = []; outputs = record { name = codes "x"; ty = Ty.UInt } ∷ []; locals = []; pre = Form.number zeroᵛ; post = Form.variable 0; body = acts; loops = 0; span = place }
 
 abbrev count : ℕ → Term
 count n = Term.number (Form.number (finite (ratio (pos n) 1)))
 
--- `coin` gives 1 or 0 with probability 1/2 each and pays 3, `bare` has no body, `caller` calls `bare`, and `late` calls `coin`.
+-- `coin` sets x to 1 or 0 with probability 1/2 each and has the reward 3; `bare` has no body;
+-- `caller` calls `bare`, and `late` calls `coin`.
 abbrev file : List TypedProcedure
 file =
     over_x (codes "coin") (body (Act.draw 0 ((halfʳ, count 1) ∷ (halfʳ, count 0) ∷ []) place ∷ Act.reward (Form.number (finite (ratio (pos 3) 1))) place ∷ []))
@@ -67,9 +68,9 @@ file =
 abbrev Says : List ℕ → List ℕ → Reply → Type 0
 Says name script reply = IsRunOf name script file reply
 
--- ---- Of what is read
+-- ---- The texts that are read
 
--- No script is at fault, and a text spells one.
+-- No text is both an invalid script and a script.
 never_both : (known : Known) (bytes : List ℕ) (n : ℕ) (s : Script) → IsFirstFault known bytes n → Spells known s bytes → ⊥
 never_both known bytes n s fault spells = scripts_have_no_fault known s bytes n spells fault
 
@@ -82,13 +83,13 @@ none_is_some p e = cc
 some_is_none : (p : ℕ) → ◌≡◌ {A = Option ℕ} (Some p) None → ⊥
 some_is_none p e = cc
 
--- ---- A script at fault
+-- ---- An invalid script
 
 -- `step` for `steps`.
 abbrev misspelled : List ℕ
 misspelled = codes "step 1\n"
 
--- The script's fault is told of any name, of a procedure or of none.
+-- An invalid script is reported for any name, of a procedure or not.
 fault_of_script : (Says (codes "coin") misspelled (script_fault 1)) × (Says (codes "caller") misspelled (script_fault 1)) × (Says (codes "nobody") misspelled (script_fault 1))
 fault_of_script = (
   by_script 1 (read_right (known_at file (procedure_named (codes "coin") file)) misspelled) refl,
@@ -100,7 +101,7 @@ fault_line : script_fault 1 ≡ message (faults.Script 1) (codes "script line 1:
 unfolding digits
 fault_line = refl
 
--- And nothing else, be it that there is no such procedure or that it is no program.
+-- Nothing else is reported, even if there is no such procedure or it is no program.
 script_only : (name : List ℕ) (reply : Reply) → IsFirstFault (known_at file (procedure_named name file)) misspelled 1 → Says name misspelled reply → reply ≡ script_fault 1
 script_only name reply broken (by_script line fault e) = e ∙ ap script_fault (faults_are_unique (known_at file (procedure_named name file)) misspelled line 1 fault broken)
 script_only name reply broken (by_name s read none e) = absurd (never_both (known_at file (procedure_named name file)) misspelled 1 s broken read)
@@ -127,7 +128,7 @@ two_steps = codes "steps 2\n"
 abbrev said : Script
 said = record { steps = 2; settings = []; decisions = [] }
 
--- It is spelled for whichever procedure.
+-- The text spells the script for every procedure.
 two_spelled : (name : List ℕ) → Spells (known_at file (procedure_named name file)) said two_steps
 two_spelled name = by (known_at file (procedure_named name file))
   where
@@ -152,7 +153,7 @@ bare_is_no_program e = cc
 caller_reaches_bare : Reaches file 2 1
 caller_reaches_bare = directly 2 1 refl
 
--- `caller` is a program, and `bare` is the first that it reaches and that is none.
+-- `caller` is a program, and `bare` is the first procedure that it reaches and that is none.
 first_of_caller : IsFirstNoProgram file 2 1
 first_of_caller = reached 1 refl caller_reaches_bare bare_is_no_program before
   where
@@ -169,7 +170,7 @@ told_of_itself = by_program said (two_spelled (codes "bare")) 1 refl 1 (itself b
 told_of_the_reached : Says (codes "caller") two_steps bare_told
 told_of_the_reached = by_program said (two_spelled (codes "caller")) 2 refl 1 first_of_caller refl
 
--- What `caller` reaches isn't forgotten, and `caller` itself isn't blamed.
+-- The reported procedure is no program; `caller` is not reported.
 one_of_caller : (q : ℕ) → IsFirstNoProgram file 2 q → IsProgram (procedure_at file q) → ⊥
 one_of_caller q (itself differs) = differs
 one_of_caller q (reached r program reaches differs before) = differs
@@ -201,12 +202,12 @@ coin_reaches_none r (onward p q u calls more) = no_calls q calls
 coin_is_alone : ReachesPrograms file 0
 coin_is_alone = record { itself = refl; reached = λ r reaches. absurd (coin_reaches_none r reaches) }
 
--- The text of sums; none of what was stopped.
+-- The text of sums, or no text if the runs were stopped.
 abbrev text_of : Unrolling → List ℕ
 text_of (Unrolling.sums t) = sums_text t
 text_of (Unrolling.stopped cause n) = []
 
--- After two steps both runs have ended, and after one each has the reward before it.
+-- After two steps both runs have terminated, and each has the reward that it paid before.
 two_steps_text : text_of (runs_by file 0 said) ≡ codes "post 1/2\nreward 3\nrunning 0\n"
 unfolding digits merged_onto joined scaled halfʳ ratio gcd gcd_steps zeroʳ oneʳ zeroᵛ oneᵛ ◌+ʳ◌ ◌*ʳ◌ ◌-ʳ◌ ◌+ᵛ◌ ◌*ᵛ◌ infinite_times is_zeroʳ leqʳ leqᵛ compareʳ exact_sum sum_fits exact_product product_fits exact_order order_fits
 two_steps_text = refl
@@ -215,7 +216,7 @@ one_step_text : text_of (runs_by file 0 (record said { steps = 1 })) ≡ codes "
 unfolding digits merged_onto joined scaled halfʳ ratio gcd gcd_steps zeroʳ oneʳ zeroᵛ oneᵛ ◌+ʳ◌ ◌*ʳ◌ ◌-ʳ◌ ◌+ᵛ◌ ◌*ᵛ◌ infinite_times is_zeroʳ leqʳ leqᵛ compareʳ exact_sum sum_fits exact_product product_fits exact_order order_fits
 one_step_text = refl
 
--- A reply that tells the run of `coin` for two steps tells these numbers.
+-- A reply that gives the result of `coin` for two steps has these numbers.
 coin_only : (reply : Reply) → TellsRun file 0 said reply → reply ≡ message faults.Nothing (codes "post 1/2\nreward 3\nrunning 0\n")
 coin_only reply tells = by tells.answer tells.unrolls tells.told
   where
@@ -228,7 +229,7 @@ coin_only reply tells = by tells.answer tells.unrolls tells.told
     by (answers.Deep step) unrolls e = absurd (short (ap text_of unrolls ∙ two_steps_text))
     by (answers.Bits step) unrolls e = absurd (short (ap text_of unrolls ∙ two_steps_text))
 
--- The sums, where nothing stops the runs.
+-- The sums, if nothing stops the runs.
 abbrev totals_in : Unrolling → Totals
 totals_in (Unrolling.sums t) = t
 totals_in (Unrolling.stopped cause n) = record { post = infinite; reward = infinite; running = zeroʳ; turns = [] }
@@ -244,7 +245,6 @@ coin_has_no_loop : coin_totals.turns ≡ []
 unfolding digits merged_onto joined scaled halfʳ ratio gcd gcd_steps zeroʳ oneʳ zeroᵛ oneᵛ ◌+ʳ◌ ◌*ʳ◌ ◌-ʳ◌ ◌+ᵛ◌ ◌*ᵛ◌ infinite_times is_zeroʳ leqʳ leqᵛ compareʳ exact_sum sum_fits exact_product product_fits exact_order order_fits
 coin_has_no_loop = refl
 
--- Of answers with this vector of turns.
 module _ (none : Vec Rational Global) (no_turns : none.items ≡ []) where
   abbrev extended : Value → Ext
   extended (finite x) = Ext.Fin x
@@ -254,7 +254,7 @@ module _ (none : Vec Rational Global) (no_turns : none.items ≡ []) where
   held (finite x) = refl
   held infinite = refl
 
-  -- The program's answer that stands for sums without turns.
+  -- The result of the program with these sums, without loops.
   abbrev answer : Totals → Unrolled
   answer t = answers.Sums (record { post = extended t.post; reward = extended t.reward; running = t.running; turns = none })
 
@@ -281,6 +281,5 @@ stopped : (run_reply (answers.Full 3) ≡ message (faults.Run (answers.Full 3)) 
 unfolding digits
 stopped = (refl, refl, refl)
 
--- Their status is 8, and that of sums is 0.
 stopped_status : ((run_reply (answers.Full 3)).status ≡ 8) × ((run_reply (answers.Bits 1)).status ≡ 8) × ((message faults.Nothing []).status ≡ 0)
 stopped_status = (refl, refl, refl)

@@ -1,4 +1,4 @@
--- Where a run starts.
+-- The start of a run: its procedure, and the first state.
 use Prim.Native.Nat.{suc, zero}
 use Rattle.heylo_formula.specs.declared.values.Val.{Val}
 use Rattle.command_rules.specs.RunStarts.{IsFirstNoProgram}
@@ -59,7 +59,6 @@ either_true false b e = e
 abbrev IsFound : List TypedProcedure → List ℕ → ℕ → Type 0
 IsFound ps xs q = (among xs q ≡ true) × ((bad ps q ≡ true) × ((r : ℕ) → r < q → among xs r ≡ true → bad ps r ≡ false))
 
--- The first of a growing list that is no program.
 found_first : (ps : List TypedProcedure) (from below : ℕ) (xs : List ℕ) → GrowBelow from below xs → (q : ℕ) → find (bad ps) xs ≡ Some q → IsFound ps xs q
 found_first ps from below [] h q e = cc
 found_first ps from below (x ∷ xs) h q e = pick (bad ps x) refl (λ later. found_first ps (suc x) below xs h.1 q later)
@@ -93,7 +92,6 @@ none_bad ps (x ∷ xs) e r there = pick (bad ps x) refl (λ later more. none_bad
     pick true k rest = let no : Some x ≡ None = rw k at e in cc
     pick false k rest = place k (eqb_tells x r) (rest (rw k at e))
 
--- What is found of the procedures that one reaches.
 pub first_or_programs : (ps : List TypedProcedure) (p : ℕ) (xs : List ℕ) (found : Option ℕ) → AreReached ps p xs → bad ps p ≡ false → found ≡ find (bad ps) xs → MatchOption found (ReachesPrograms ps p) (λ q. IsFirstNoProgram ps p q)
 first_or_programs ps p xs None reached self e =
     record {
@@ -104,7 +102,6 @@ first_or_programs ps p xs (Some q) reached self e =
     let first = found_first ps 0 (length ps) xs reached.growing q (sym e) in
     IsFirstNoProgram.reached q (good_is_program ps p self) (reached.only q first.0) (bad_is_none ps q first.1.0) (λ r lt reaches. good_is_program ps r (first.1.1 r lt (reached.all r reaches)))
 
--- The procedure itself is none.
 pub itself_bad : (ps : List TypedProcedure) (p : ℕ) → bad ps p ≡ true → IsFirstNoProgram ps p p
 itself_bad ps p e = IsFirstNoProgram.itself (bad_is_none ps p e)
 
@@ -116,7 +113,6 @@ below_all from below (x ∷ xs) h r e = pick (eqb_tells x r) (λ there. below_al
     pick (inl k) rest = subst (λ z. z < below) k.1 h.0.1
     pick (inr k) rest = rest (rw k.0 at e)
 
--- What is found is a procedure of the file.
 pub found_below : (ps : List TypedProcedure) (p n : ℕ) (xs : List ℕ) (found : Option ℕ) → AreReached ps p xs → length ps ≡ n → found ≡ find (bad ps) xs → IfSome found (λ q. q < n)
 found_below ps p n xs None reached same e = tt
 found_below ps p n xs (Some q) reached same e = subst (λ m. q < m) same (below_all 0 (length ps) xs reached.growing q (found_first ps 0 (length ps) xs reached.growing q (sym e)).0)
@@ -125,7 +121,6 @@ grow_all : (from below : ℕ) (xs : List ℕ) → GrowBelow from below xs → Al
 grow_all from below [] h = All-nil (λ q. q < below)
 grow_all from below (x ∷ xs) h = All-cons (λ q. q < below) x xs h.0.1 (grow_all (suc x) below xs h.1)
 
--- All procedures that one reaches are procedures of the file.
 pub reached_below : (ps : List TypedProcedure) (p n : ℕ) (xs : List ℕ) → AreReached ps p xs → length ps ≡ n → All (λ q. q < n) xs
 reached_below ps p n xs reached same = subst (λ m. All (λ q. q < m) xs) same (grow_all 0 (length ps) xs reached.growing)
 
@@ -143,7 +138,6 @@ procedure_counted (y ∷ rest) (suc p) x lt is h = procedure_counted rest p x (o
 
 -- ---- Runs
 
--- The configuration that a run begins with, in the state that a script sets.
 pub begins_with : (ps : List TypedProcedure) (p : ℕ) (settings : List Setting) (state : List Val) (c : Stored) → state ≡ start_state (procedure_at ps p) settings → c ≡ stored_begin ps p state → (IsState (procedure_at ps p) state → IsConfig ps c) → Begins ps p c
 begins_with ps p settings state c is first config = record {
   state = state;
@@ -151,7 +145,6 @@ begins_with ps p settings state c is first config = record {
   config = config (subst (IsState (procedure_at ps p)) (sym is) (start_typed (procedure_at ps p) settings));
 }
 
--- What the runs by a script come to.
 pub unrolls_by : (ps : List TypedProcedure) (p : ℕ) (s : Script) (script : List Decide) (n : ℕ) (state : List Val) (first : Stored) (u : Unrolling) → u ≡ unrolled ps p script n (begun first) → script ≡ s.decisions → n ≡ s.steps → first ≡ stored_begin ps p state → state ≡ start_state (procedure_at ps p) s.settings → u ≡ runs_by ps p s
 unrolls_by ps p s script n state first u e decisions steps begins starts =
     e ∙ (ap (λ d. unrolled ps p d n (begun first)) decisions

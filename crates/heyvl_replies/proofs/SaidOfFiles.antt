@@ -1,4 +1,4 @@
--- What commands say of files without a fault, and of how many procedures.
+-- Replies of the commands to files without an error, and the numbers of their answers.
 use Rattle.cert_text.specs.Certificates.{certificates_of}
 use Rattle.cert_text.specs.Texts.{Spells}
 use Rattle.goal_answers.specs.declared.trees.GoalCert.{GoalCert}
@@ -46,7 +46,6 @@ spelled bytes file is = record { tokens = is.tokens; lexes = is.lexes; is_file =
 same_file : SpellingIsUnique → (bytes : List ℕ) (file other : List Procedure) → IsSource bytes file → IsSource bytes other → file ≡ other
 same_file unique bytes file other is also = unique bytes file other (spelled bytes file is) (spelled bytes other also)
 
--- There are as many answers as procedures.
 pub one_for_each : (ps : List TypedProcedure) (table ranks : _) (p : ℕ) (qs : List TypedProcedure) (answers : List Answer) → AreAnswers ps table ranks p qs answers → length answers ≡ length qs
 one_for_each ps table ranks p [] [] h = refl
 one_for_each ps table ranks p [] (a ∷ rest) h = absurd h
@@ -68,7 +67,7 @@ answered_whole file reply text each e = record {
   status = subst (λ (n : ℕ). n ≤ 2) (sym (ap (λ (r : Reply). r.status) e)) (at_most_two reply.answers);
 }
 
--- ---- What is said of files without a fault
+-- ---- Replies to files without an error
 
 no_fault_is_none : (f : Finding) → ◌≡◌ {A = Option Finding} None (Some f) → ⊥
 no_fault_is_none f e = cc
@@ -77,7 +76,6 @@ faultless_file : SourcesHaveNoFault → SpellingIsUnique → (bytes : List ℕ) 
 faultless_file clean unique bytes file n p is none (spelling fault) = clean bytes file n p is fault
 faultless_file clean unique bytes file n p is none (static other also found) = no_fault_is_none (n, p) (sym none ∙ (ap first_fault (same_file unique bytes file other is also) ∙ found))
 
--- What a command that asks for types says of a file without a fault is what it says of its typed procedures.
 pub said_of_file : SourcesHaveNoFault → SpellingIsUnique → (Says : List TypedProcedure → Reply → Type 0) (bytes : List ℕ) (file : List Procedure) (reply : Reply) → IsSource bytes file → first_fault file ≡ None → IsTypedReply Says bytes reply → Says (resolved file) reply
 said_of_file clean unique Says bytes file reply is none (by_fault n p fault e) = absurd (faultless_file clean unique bytes file n p is none fault)
 said_of_file clean unique Says bytes file reply is none (by_file other also nothing told) = subst (λ (f : List Procedure). Says (resolved f) reply) (same_file unique bytes other file also is) told
@@ -96,7 +94,6 @@ certified clean unique bytes file reply is none replied =
     let made : IsCertification (resolved file) reply = said_of_file clean unique IsCertification bytes file reply is none replied in
     (made, answered_whole (resolved file) reply _ (one_for_each (resolved file) _ _ 0 (resolved file) reply.answers made.are_answers.answers_of) made.is_reply)
 
--- A text of certificates is reported by.
 check_reported : (bytes text : List ℕ) (ps : List TypedProcedure) (certs : List GoalCert) (reply : Reply) → Spells (certificates_of certs) text → IsCheckedReply bytes text ps reply → IsCheckReport bytes ps text reply
 check_reported bytes text ps certs reply spells (by_line line fault e) = absurd (fault.unfinished (certificates_of certs) spells)
 check_reported bytes text ps certs reply spells (by_certificates report) = report
@@ -107,7 +104,7 @@ checked clean unique bytes text file certs reply is none spells replied =
     check_reported bytes text (resolved file) certs reply spells (said_of_file clean unique (IsCheckedReply bytes text) bytes file reply is none replied) in
     (report, answered_whole (resolved file) reply _ (one_for_each (resolved file) _ _ 0 (resolved file) reply.answers report.checked.answers_of) report.is_reply)
 
--- ---- What is said of programs
+-- ---- Replies about programs
 
 pub same_number : (p q : ℕ) → ◌≡◌ {A = Option ℕ} (Some p) (Some q) → p ≡ q
 same_number p q e = cc
@@ -134,7 +131,7 @@ run_told clean unique name bytes script file reply is none s p named read progra
     subst (λ (found : Option ℕ). scripts.Spells (known_at (resolved file) found) s script) (sym named) read in
     program_run name script (resolved file) reply s p named same programs (said_of_file clean unique (IsRunOf name script) bytes file reply is none replied)
 
--- ---- What is said of generated texts
+-- ---- Replies about generated texts
 
 pub gen_answered : GeneratedTextsAreAnswered
 gen_answered n reply fits is =

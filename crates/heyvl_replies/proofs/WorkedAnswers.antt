@@ -1,4 +1,5 @@
--- Worked answers: the status of each verdict, alone and beside others; and what is shown of a procedure.
+-- Worked answers: the status of each verdict, alone and among others; and the values that are shown
+-- of a procedure.
 use Rattle.heylo_formula.specs.declared.goals.GoalId.TheVariants.{Main, Post}
 use Rattle.command_rules.specs.Statuses.{answers_status, is_rank_open, is_rank_refuted}
 use Rattle.command_rules.specs.commands.Refute.{shown_of}
@@ -17,7 +18,7 @@ use Rattle.heylo_formula.specs.declared.values.Val.{Val}
 
 -- ---- Statuses
 
--- Of answers with these vectors of loops and states.
+-- The answers have no loops, and `state` is a state.
 module _ (none : Vec LoopAnswer Global) (no_loops : none.items ≡ []) (state : Vec Val Global) where
   said : Verdict → Answer
   said v = record { name = []; verdict = v; loops = none }
@@ -32,12 +33,12 @@ module _ (none : Vec LoopAnswer Global) (no_loops : none.items ≡ []) (state : 
   unfolding said
   alone = (rw no_loops refl, rw no_loops refl, rw no_loops refl, refl, rw no_loops refl, rw no_loops refl, rw no_loops refl)
 
-  -- A bound that is false counts more than one that is left open, wherever it stands.
+  -- A bound that is false determines the status, not one that is open, in any order.
   beside : answers_status (said (verdict.Unknown Main Bits) ∷ said verdict.Verified ∷ said (verdict.NotVerified Main state) ∷ []) ≡ 1
   unfolding said
   beside = rw no_loops refl
 
-  -- A state is shown where the bound is false by its main goal, and of this procedure.
+  -- Values are shown of this procedure, if its bound is false by its main goal.
   shown :
       (shown_of (said verdict.Verified ∷ said (verdict.NotVerified Main state) ∷ []) 1 ≡ state.items) × (shown_of (said verdict.Verified ∷ said (verdict.NotVerified Main state) ∷ []) 0 ≡ [])
       × (shown_of (said verdict.Verified ∷ said (verdict.NotVerified Main state) ∷ []) 2 ≡ []) × (shown_of (said (verdict.NotVerified Post state) ∷ []) 0 ≡ [])

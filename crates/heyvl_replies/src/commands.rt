@@ -1,4 +1,4 @@
-//! What each command says of the bytes of its files.
+//! The replies of the commands to the bytes of their files.
 
 pub mod certify;
 pub mod check;

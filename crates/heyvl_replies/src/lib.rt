@@ -1,4 +1,6 @@
-//! What each command says of the bytes of its files: the reply, before it is written.
+//! The replies of the commands to the bytes of their files, before they are written.
+//!
+//! `AllocError` means that memory ran out.
 #![tactic(auto)]
 
 pub mod commands;

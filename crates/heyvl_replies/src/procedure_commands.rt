@@ -1,4 +1,4 @@
-//! What commands have in common that name a procedure.
+//! Parts of the commands that name a procedure.
 
 pub(crate) mod procedures;
 pub(crate) mod replies;

@@ -5,7 +5,8 @@ ghost use Rattle.cert_text.specs.Texts.{Spells};
 ghost use Rattle.heyvl_acts.specs.PlainActs.{procedures_of};
 ghost use Rattle.spelled_files.specs.Sources.{IsReady, file_limit};
 ghost use Rattle.command_rules.specs.Responses.{reply_of};
-ghost use Rattle.command_rules.specs.commands.Check.{FilesAreChecked, IsCheckReply, IsCheckReport, IsCheckedReply, certificate_fault};
+ghost use Rattle.command_rules.specs.commands.Check.{FilesAreChecked, IsCheckReply, IsCheckReport};
+ghost use Rattle.command_rules.specs.commands.Check.{IsCheckedReply, certificate_fault};
 ghost use Rattle.std.specs.Prelude.{IfOk, List, None, codes, decimal, length, ◌++◌, ◌≡◌, ◌≤◌, ℕ};
 
 use cert_text::{CertStop, read_cert};
@@ -19,9 +20,10 @@ use std::alloc::{AllocError, Global};
 use verdict_report::report;
 use verify_core::check_all;
 
-/// The line on certificates with a fault.
+/// Returns the line on invalid certificates.
 fn fault_text(alloc: Global, line: u32) -> Result<Vec<u8>, AllocError>
-    ensures { IfOk result (λ text. text.items ≡ codes "certificate line " ++ decimal line ++ codes ": fault\n") }
+    ensures { IfOk result (λ text. text.items ≡ codes "certificate line " ++ decimal line
+        ++ codes ": fault\n") }
 {
     let mut buffer = Buffer::new();
     let mut text = Vec::new(alloc);
@@ -31,7 +33,7 @@ fn fault_text(alloc: Global, line: u32) -> Result<Vec<u8>, AllocError>
     Ok(text)
 }
 
-/// What is said of certificates with a fault in this line.
+/// Returns the reply to invalid certificates, whose first invalid line is `line`.
 fn certificate_fault(alloc: Global, line: u32) -> Result<Response, AllocError>
     ensures { IfOk result (λ response. reply_of response ≡ certificate_fault line) }
 {
@@ -39,7 +41,7 @@ fn certificate_fault(alloc: Global, line: u32) -> Result<Response, AllocError>
     Ok(message(alloc, Fault::Cert(line), Text::Made(text)))
 }
 
-/// The report on a file by these certificates.
+/// Returns the report on a file by these certificates.
 fn report_by(
     alloc: Global,
     bytes: &[u8],
@@ -57,8 +59,8 @@ fn report_by(
     Ok(answered(whole.answers, text))
 }
 
-/// What `check` says of a file without a fault and a text of certificates: the first line of the text that certificates don't allow,
-/// or else the report by them.
+/// Returns the reply of `check` to a file without an error and a text of certificates: the first
+/// invalid line of the text, or else the report.
 fn check_typed(
     alloc: Global,
     bytes: &[u8],
@@ -68,7 +70,8 @@ fn check_typed(
     requires short { length bytes.now ≤ file_limit }
     requires short_text { length text.now ≤ file_limit }
     requires ready { IsReady bytes.now typed.now }
-    ensures { IfOk result (λ response. IsCheckedReply bytes.now text.now (procedures_of typed.now) (reply_of response)) }
+    ensures { IfOk result (λ response.
+        IsCheckedReply bytes.now text.now (procedures_of typed.now) (reply_of response)) }
 {
     match read_cert(alloc, text) {
         Ok(certs) => report_by(alloc, bytes, typed, &certs),
@@ -77,7 +80,7 @@ fn check_typed(
     }
 }
 
-/// What `check` says of a file with these bytes and of a text of certificates.
+/// Returns the reply of `check` to a file with these bytes and a text of certificates.
 pub fn respond(alloc: Global, bytes: &[u8], text: &[u8]) -> Result<Response, AllocError>
     requires short { length bytes.now ≤ file_limit }
     requires short_text { length text.now ≤ file_limit }
@@ -89,8 +92,8 @@ pub fn respond(alloc: Global, bytes: &[u8], text: &[u8]) -> Result<Response, All
     }
 }
 
-/// Of bytes that spell a file without a fault, and of a text that spells certificates, `check` answers every procedure, its report by them is
-/// written, and the status is 0, 1 or 2.
+/// If bytes spell a file without an error and a text spells certificates, `check` answers each
+/// procedure and writes the report by the certificates, and the status is 0, 1 or 2.
 pub fn files_are_checked()
     ensures { FilesAreChecked }
 {

@@ -9,7 +9,7 @@ use command_rules::{Response, answered};
 use generated_summary::summarize;
 use std::alloc::{AllocError, Global};
 
-/// What `gen` says of so many lines.
+/// Returns the reply of `gen` for this number of lines.
 pub fn respond(alloc: Global, lines: u32) -> Result<Response, AllocError>
     requires { is_line_count lines ≡ true }
     ensures { IfOk result (λ response. IsGenReply lines (reply_of response)) }
@@ -18,8 +18,8 @@ pub fn respond(alloc: Global, lines: u32) -> Result<Response, AllocError>
     Ok(answered(made.answers, made.text))
 }
 
-/// On a generated text of as many lines as can be asked for every procedure is answered, the summary is written, and the status is 0, 1
-/// or 2.
+/// For each number of lines that may be asked for, `gen` answers each procedure and writes the
+/// summary, and the status is 0, 1 or 2.
 pub fn generated_texts_are_answered()
     ensures { GeneratedTextsAreAnswered }
 {}

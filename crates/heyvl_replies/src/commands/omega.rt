@@ -1,9 +1,11 @@
-//! `omega FILE PROC NAME`: whether the pre of a procedure is an omega invariant of the loop of another.
+//! `omega FILE PROC NAME`: whether the pre of NAME is an omega invariant of the loop of PROC.
 
 ghost use Rattle.heyvl_acts.specs.PlainActs.{procedures_of};
 ghost use Rattle.spelled_files.specs.Sources.{IsReady, file_limit};
 ghost use Rattle.command_rules.specs.Responses.{reply_of};
-ghost use Rattle.command_rules.specs.commands.Omega.{IsOmegaOf, IsOmegaReply, OmegaPairsAreAnswered, TellsOmega, omega_reply};
+ghost use Rattle.command_rules.specs.commands.Omega.{IsOmegaOf, IsOmegaReply};
+ghost use Rattle.command_rules.specs.commands.Omega.{OmegaPairsAreAnswered, TellsOmega};
+ghost use Rattle.command_rules.specs.commands.Omega.{omega_reply};
 ghost use Rattle.std.specs.Prelude.{IfOk, length, ◌<◌, ◌≡◌, ◌≤◌};
 
 use crate::procedure_commands::procedures::procedure_named;
@@ -17,7 +19,7 @@ use lower_rules::omega;
 use lower_texts::omega_text;
 use std::alloc::{AllocError, Global};
 
-/// What is said of an answer that has this text.
+/// Returns the reply with the line on an answer, and its status.
 fn reply(alloc: Global, answer: &Omega, text: Vec<u8>) -> Response
     ensures { reply_of result ≡ omega_reply answer.now text.items }
 {
@@ -29,7 +31,7 @@ fn reply(alloc: Global, answer: &Omega, text: Vec<u8>) -> Response
     }
 }
 
-/// What is said of the procedures with these numbers.
+/// Returns the reply about the procedures `p` and `q`.
 fn of_pair(
     alloc: Global,
     bytes: &[u8],
@@ -41,14 +43,16 @@ fn of_pair(
     requires ready { IsReady bytes.now typed.now }
     requires first { p < length typed.now.procs.items }
     requires second { q < length typed.now.procs.items }
-    ensures { IfOk result (λ response. TellsOmega bytes.now (procedures_of typed.now) p q (reply_of response)) }
+    ensures { IfOk result (λ response.
+        TellsOmega bytes.now (procedures_of typed.now) p q (reply_of response)) }
 {
     let answer = omega(alloc, typed, p, q)?;
     let text = omega_text(alloc, bytes, typed, p, q, &answer)?;
     Ok(reply(alloc, &answer, text))
 }
 
-/// What is said of the procedures of these names: that no procedure has the one or the other name; or else what is answered of them.
+/// Returns the reply about the procedures with these names: that no procedure has one of the names,
+/// or the answer on the pair.
 fn of_names(
     alloc: Global,
     bytes: &[u8],
@@ -58,7 +62,8 @@ fn of_names(
 ) -> Result<Response, AllocError>
     requires short { length bytes.now ≤ file_limit }
     requires ready { IsReady bytes.now typed.now }
-    ensures { IfOk result (λ response. IsOmegaOf procedure.now name.now bytes.now (procedures_of typed.now) (reply_of response)) }
+    ensures { IfOk result (λ response.
+        IsOmegaOf procedure.now name.now bytes.now (procedures_of typed.now) (reply_of response)) }
 {
     let first = procedure_named(typed, procedure);
     let second = procedure_named(typed, name);
@@ -71,7 +76,7 @@ fn of_names(
     }
 }
 
-/// What `omega` says of a file with these bytes, and of the names of two procedures.
+/// Returns the reply of `omega` to a file with these bytes and the names of two procedures.
 pub fn respond(
     alloc: Global,
     bytes: &[u8],
@@ -79,7 +84,8 @@ pub fn respond(
     name: &[u8],
 ) -> Result<Response, AllocError>
     requires { length bytes.now ≤ file_limit }
-    ensures { IfOk result (λ response. IsOmegaReply procedure.now name.now bytes.now (reply_of response)) }
+    ensures { IfOk result (λ response.
+        IsOmegaReply procedure.now name.now bytes.now (reply_of response)) }
 {
     match typed_source(alloc, bytes) {
         Ok(typed) => of_names(alloc, bytes, &typed, procedure, name),
@@ -87,7 +93,8 @@ pub fn respond(
     }
 }
 
-/// Of bytes that spell a file without a fault, and of the names of two of its procedures, `omega` tells what is answered of these.
+/// If bytes spell a file without an error that has both procedures, `omega` gives the answer on
+/// them.
 pub fn omega_pairs_are_answered()
     ensures { OmegaPairsAreAnswered }
 {

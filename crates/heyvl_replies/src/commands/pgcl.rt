@@ -1,8 +1,9 @@
-//! `pgcl FILE`: the file of HeyVL that a program of guarded commands becomes.
+//! `pgcl FILE`: the HeyVL file of a program of guarded commands.
 
 ghost use Rattle.spelled_files.specs.Sources.{file_limit};
 ghost use Rattle.command_rules.specs.Responses.{reply_of};
-ghost use Rattle.command_rules.specs.commands.Pgcl.{IsPgclReply, ProgramFaultsAreTold, ProgramsAreTranslated};
+ghost use Rattle.command_rules.specs.commands.Pgcl.{IsPgclReply, ProgramFaultsAreTold};
+ghost use Rattle.command_rules.specs.commands.Pgcl.{ProgramsAreTranslated};
 ghost use Rattle.std.specs.Prelude.{IfOk, length, ◌≤◌};
 
 use crate::commands::print::print_file;
@@ -10,7 +11,7 @@ use command_rules::{Response, refused};
 use heyvl_files::{program_file, program_files_are_unique};
 use std::alloc::{AllocError, Global};
 
-/// What `pgcl` says of a program with these bytes.
+/// Returns the reply of `pgcl` to a program with these bytes.
 pub fn respond(alloc: Global, bytes: &[u8]) -> Result<Response, AllocError>
     requires { length bytes.now ≤ file_limit }
     ensures { IfOk result (λ response. IsPgclReply bytes.now (reply_of response)) }
@@ -21,8 +22,8 @@ pub fn respond(alloc: Global, bytes: &[u8]) -> Result<Response, AllocError>
     }
 }
 
-/// Of bytes that spell a program without a fault `pgcl` writes the text of the file that it becomes, which spells this file again; of others it
-/// tells the first fault.
+/// If bytes spell a program without an error, `pgcl` writes the canonical text of its file, which
+/// spells this file again up to places; otherwise it reports the first error.
 pub fn programs_are_translated()
     ensures translated { ProgramsAreTranslated }
     ensures told { ProgramFaultsAreTold }

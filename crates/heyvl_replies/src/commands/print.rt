@@ -12,7 +12,7 @@ use heyvl_print::print;
 use heyvl_syntax::{File, sources_have_no_fault};
 use std::alloc::{AllocError, Global};
 
-/// The canonical text of a file.
+/// Returns the reply with the canonical text of a file.
 pub(crate) fn print_file(alloc: Global, file: &File) -> Result<Response, AllocError>
     ensures { IfOk result (λ response. reply_of response ≡ printed (procedures file.now)) }
 {
@@ -20,7 +20,7 @@ pub(crate) fn print_file(alloc: Global, file: &File) -> Result<Response, AllocEr
     Ok(message(alloc, Fault::Nothing, Text::Made(text)))
 }
 
-/// What `print` says of a file with these bytes.
+/// Returns the reply of `print` to a file with these bytes.
 pub fn respond(alloc: Global, bytes: &[u8]) -> Result<Response, AllocError>
     requires { length bytes.now ≤ file_limit }
     ensures { IfOk result (λ response. IsPrintReply bytes.now (reply_of response)) }
@@ -31,7 +31,7 @@ pub fn respond(alloc: Global, bytes: &[u8]) -> Result<Response, AllocError>
     }
 }
 
-/// Of bytes that spell a file `print` writes its canonical text.
+/// If bytes spell a file, `print` writes its canonical text.
 pub fn files_are_printed()
     ensures { FilesArePrinted }
 {

@@ -1,4 +1,5 @@
-//! `refute FILE PROC SCRIPT`: the least number of steps at which the runs by a script pass the pre of a coproc.
+//! `refute FILE PROC SCRIPT`: the least number of steps after which the runs of a coproc under a
+//! script exceed its pre.
 
 ghost use Rattle.heyvl_acts.specs.Acts.{procedure_at};
 ghost use Rattle.heyvl_acts.specs.PlainActs.{procedures_of};
@@ -7,7 +8,10 @@ ghost use Rattle.heyvl_acts.specs.FormSizes.{FormsWithin};
 ghost use Rattle.spelled_files.specs.Sources.{file_limit};
 ghost use Rattle.command_rules.specs.Responses.{reply_of};
 ghost use Rattle.command_rules.specs.RunStarts.{known_at, procedure_named};
-ghost use Rattle.command_rules.specs.commands.Refute.{CoprocsAreSearched, IsRefuteOf, IsRefuteReply, TellsRefuted, refute_start, refuted_reply, shown_by, shown_of, with_answers};
+ghost use Rattle.command_rules.specs.commands.Refute.{CoprocsAreSearched, IsRefuteOf};
+ghost use Rattle.command_rules.specs.commands.Refute.{IsRefuteReply, TellsRefuted, refute_start};
+ghost use Rattle.command_rules.specs.commands.Refute.{refuted_reply, shown_by, shown_of};
+ghost use Rattle.command_rules.specs.commands.Refute.{with_answers};
 ghost use Rattle.command_rules.specs.commands.Run.{run_reply};
 ghost use Rattle.command_rules.specs.declared.faults.Fault.TheVariants as faults;
 ghost use Rattle.refute_runs.specs.RefutedAnswers.{IsRefutedAnswer};
@@ -36,7 +40,8 @@ use std::alloc::{AllocError, Global};
 use verdict_report::{Answer, Verdict};
 use verify_core::verify;
 
-/// The values that a verdict shows of a procedure whose bound is falsified by its main goal; none of any other.
+/// Returns the values that a verdict shows, if the main goal of the bound is falsified; otherwise
+/// none.
 fn shown_by(verdict: &Verdict) -> &[Val]
     ensures { result.now ≡ shown_by verdict.now }
 {
@@ -48,7 +53,7 @@ fn shown_by(verdict: &Verdict) -> &[Val]
     }
 }
 
-/// Those that the answers show of the procedure with this number.
+/// Returns the values that the answers show of the procedure with the number `p`.
 fn shown_of(answers: &[Answer], p: u32) -> &[Val]
     requires { p < length answers.now }
     ensures { result.now ≡ shown_of answers.now p }
@@ -56,7 +61,7 @@ fn shown_of(answers: &[Answer], p: u32) -> &[Val]
     shown_by(&answers[p as usize].verdict)
 }
 
-/// What a search by a script gives, from the state in which the runs start.
+/// Returns the result of a search under a script, from the state in which the runs start.
 fn searched(
     alloc: Global,
     typed: &Typed,
@@ -70,23 +75,35 @@ fn searched(
     requires coproc { (procedure_at (procedures_of typed.now) p).co ≡ true }
     requires steps { script.now.steps ≤ 10000 }
     requires each { length answers.now ≡ length typed.now.procs.items }
-    ensures answer { IfOk result (λ answer. IsRefutedAnswer (procedures_of typed.now) p (refute_start (procedures_of typed.now) p (script_of script.now) answers.now) script.now.decisions.items script.now.steps answer) }
-    ensures violation { IfOk result (λ answer. ViolationIsOfRuns (procedures_of typed.now) p (refute_start (procedures_of typed.now) p (script_of script.now) answers.now) script.now.decisions.items answer) }
-    ensures numbers { IfOk result (λ answer. NumbersAreOfRuns (procedures_of typed.now) p (refute_start (procedures_of typed.now) p (script_of script.now) answers.now) script.now.decisions.items script.now.steps answer) }
+    ensures answer { IfOk result
+        (λ answer. IsRefutedAnswer (procedures_of typed.now) p
+        (refute_start (procedures_of typed.now) p (script_of script.now) answers.now)
+        script.now.decisions.items script.now.steps answer) }
+    ensures violation { IfOk result
+        (λ answer. ViolationIsOfRuns (procedures_of typed.now) p
+        (refute_start (procedures_of typed.now) p (script_of script.now) answers.now)
+        script.now.decisions.items answer) }
+    ensures numbers { IfOk result
+        (λ answer. NumbersAreOfRuns (procedures_of typed.now) p
+        (refute_start (procedures_of typed.now) p (script_of script.now) answers.now)
+        script.now.decisions.items script.now.steps answer) }
 {
     let shown = shown_of(answers, p);
     let state = start_state_over(alloc, procedure(typed, p), &script.settings, shown)?;
     refute(alloc, typed, p, &state, &script.decisions, script.steps)
 }
 
-/// The line on what a search of at most so many steps gives.
+/// Returns the line on the result of a search of at most `steps` steps in the procedure named
+/// `name`.
 fn refuted_text(
     alloc: Global,
     name: &[u8],
     steps: u32,
     answer: &Refuted,
 ) -> Result<Vec<u8>, AllocError>
-    ensures { (answers : List Answer) → IfOk result (λ text. text.items ≡ (refuted_reply name.now steps answers answer.now).output) }
+    ensures { (answers : List Answer)
+        → IfOk result
+        (λ text. text.items ≡ (refuted_reply name.now steps answers answer.now).output) }
 {
     match answer {
         Refuted::Violation(step, sum, pre) => violation_text(alloc, name, *step, *sum, *pre),
@@ -95,7 +112,8 @@ fn refuted_text(
     }
 }
 
-/// The same of the procedure with this number.
+/// Returns the line on the result of a search of at most `steps` steps in the procedure with the
+/// number `p`.
 fn refuted_line(
     alloc: Global,
     typed: &Typed,
@@ -105,14 +123,24 @@ fn refuted_line(
 ) -> Result<Vec<u8>, AllocError>
     requires there { p < length typed.now.procs.items }
     requires rules { MeetsAllRules typed.now }
-    ensures { (answers : List Answer) → IfOk result (λ text. text.items ≡ (refuted_reply (procedure_at (procedures_of typed.now) p).name steps answers answer.now).output) }
+    ensures { (answers : List Answer)
+        → IfOk result
+        (λ text. text.items
+        ≡ (refuted_reply (procedure_at (procedures_of typed.now) p).name steps answers
+        answer.now).output) }
 {
     refuted_text(alloc, procedure(typed, p).name.as_bytes(), steps, answer)
 }
 
-/// What is said with answers and a status of its own.
+/// Returns a reply with a text, answers and a status.
 fn with_status(status: u8, answers: Vec<Answer>, text: Vec<u8>) -> Response
-    ensures { reply_of result ≡ record { fault = faults.Nothing; answers = answers.items; output = text.items; status = status } }
+    ensures { reply_of result
+        ≡ record {
+          fault = faults.Nothing;
+          answers = answers.items;
+          output = text.items;
+          status = status;
+        } }
 {
     Response {
         fault: Fault::Nothing,
@@ -122,9 +150,10 @@ fn with_status(status: u8, answers: Vec<Answer>, text: Vec<u8>) -> Response
     }
 }
 
-/// What is said with answers of what stopped the runs.
+/// Returns the reply with answers to runs that were stopped.
 fn stopped_response(stopped: Unrolled, answers: Vec<Answer>, text: Vec<u8>) -> Response
-    ensures { text.items ≡ (run_reply stopped).output → reply_of result ≡ with_answers answers.items (run_reply stopped) }
+    ensures { text.items ≡ (run_reply stopped).output
+        → reply_of result ≡ with_answers answers.items (run_reply stopped) }
 {
     let fault = run_fault(stopped);
     Response {
@@ -135,9 +164,10 @@ fn stopped_response(stopped: Unrolled, answers: Vec<Answer>, text: Vec<u8>) -> R
     }
 }
 
-/// What is said of a search, with this text and these answers.
+/// Returns the reply to the result of a search, with this text and these answers.
 fn refuted_response(answer: Refuted, answers: Vec<Answer>, text: Vec<u8>) -> Response
-    ensures { (name : List ℕ) (steps : ℕ) → text.items ≡ (refuted_reply name steps answers.items answer).output
+    ensures { (name : List ℕ) (steps : ℕ)
+        → text.items ≡ (refuted_reply name steps answers.items answer).output
         → reply_of result ≡ refuted_reply name steps answers.items answer }
 {
     match answer {
@@ -147,7 +177,7 @@ fn refuted_response(answer: Refuted, answers: Vec<Answer>, text: Vec<u8>) -> Res
     }
 }
 
-/// What is said of a coproc that reaches programs alone.
+/// Returns the reply to a coproc that reaches only programs, and a script.
 fn refute_programs(
     alloc: Global,
     typed: &Typed,
@@ -160,7 +190,8 @@ fn refute_programs(
     requires programs { ReachesPrograms (procedures_of typed.now) p }
     requires coproc { (procedure_at (procedures_of typed.now) p).co ≡ true }
     requires steps { script.now.steps ≤ 10000 }
-    ensures { IfOk result (λ response. TellsRefuted (procedures_of typed.now) p (script_of script.now) (reply_of response)) }
+    ensures { IfOk result (λ response.
+        TellsRefuted (procedures_of typed.now) p (script_of script.now) (reply_of response)) }
 {
     let whole = verify(alloc, typed)?;
     let answer = searched(alloc, typed, p, script, &whole.answers)?;
@@ -168,7 +199,7 @@ fn refute_programs(
     Ok(refuted_response(answer, whole.answers, text))
 }
 
-/// What is said of a coproc and a script.
+/// Returns the reply to a coproc and a script.
 fn refute_coproc(
     alloc: Global,
     typed: &Typed,
@@ -180,8 +211,10 @@ fn refute_coproc(
     requires small { Each (FormsWithin (2 ^ 27)) (procedures_of typed.now) }
     requires coproc { (procedure_at (procedures_of typed.now) p).co ≡ true }
     requires steps { script.now.steps ≤ 10000 }
-    ensures { IfOk result (λ response. (name bytes : List ℕ) → procedure_named name (procedures_of typed.now) ≡ Some p
-        → Spells (known_at (procedures_of typed.now) (procedure_named name (procedures_of typed.now))) (script_of script.now) bytes
+    ensures { IfOk result (λ response. (name bytes : List ℕ)
+        → procedure_named name (procedures_of typed.now) ≡ Some p
+        → Spells (known_at (procedures_of typed.now)
+        (procedure_named name (procedures_of typed.now))) (script_of script.now) bytes
         → IsRefuteOf name bytes (procedures_of typed.now) (reply_of response)) }
 {
     match first_no_program(alloc, typed, p)? {
@@ -190,14 +223,16 @@ fn refute_coproc(
     }
 }
 
-/// What is said of a procedure and a script.
+/// Returns the reply to a procedure and a script.
 fn refute_at(alloc: Global, typed: &Typed, p: u32, script: &Script) -> Result<Response, AllocError>
     requires there { p < length typed.now.procs.items }
     requires rules { MeetsAllRules typed.now }
     requires small { Each (FormsWithin (2 ^ 27)) (procedures_of typed.now) }
     requires steps { script.now.steps ≤ 10000 }
-    ensures { IfOk result (λ response. (name bytes : List ℕ) → procedure_named name (procedures_of typed.now) ≡ Some p
-        → Spells (known_at (procedures_of typed.now) (procedure_named name (procedures_of typed.now))) (script_of script.now) bytes
+    ensures { IfOk result (λ response. (name bytes : List ℕ)
+        → procedure_named name (procedures_of typed.now) ≡ Some p
+        → Spells (known_at (procedures_of typed.now)
+        (procedure_named name (procedures_of typed.now))) (script_of script.now) bytes
         → IsRefuteOf name bytes (procedures_of typed.now) (reply_of response)) }
 {
     if is_coproc(typed, p) {
@@ -207,9 +242,9 @@ fn refute_at(alloc: Global, typed: &Typed, p: u32, script: &Script) -> Result<Re
     }
 }
 
-/// What is said of the typed tree of a file, the name of a procedure and a script: the first line with which no script goes on; or else
-/// that no procedure has the name; or else that it is no coproc; or else the first procedure that is no program; or else what a search
-/// gives.
+/// Returns the reply to a typed file, the name of a procedure and a script, by the first case that
+/// applies: the script's first invalid line; that no procedure has this name; that it is no coproc;
+/// the first procedure reached that is no program; otherwise the result of the search.
 fn refute_typed(
     alloc: Global,
     typed: &Typed,
@@ -219,7 +254,8 @@ fn refute_typed(
     requires rules { MeetsAllRules typed.now }
     requires small { Each (FormsWithin (2 ^ 27)) (procedures_of typed.now) }
     requires short { length script.now ≤ file_limit }
-    ensures { IfOk result (λ response. IsRefuteOf name.now script.now (procedures_of typed.now) (reply_of response)) }
+    ensures { IfOk result (λ response.
+        IsRefuteOf name.now script.now (procedures_of typed.now) (reply_of response)) }
 {
     let found = procedure_named(typed, name);
     let known = known_at(typed, found);
@@ -233,7 +269,7 @@ fn refute_typed(
     }
 }
 
-/// What `refute` says of a file with these bytes, of the name of a procedure and of a script.
+/// Returns the reply of `refute` to a file with these bytes, the name of a procedure and a script.
 pub fn respond(
     alloc: Global,
     bytes: &[u8],
@@ -242,7 +278,8 @@ pub fn respond(
 ) -> Result<Response, AllocError>
     requires short { length bytes.now ≤ file_limit }
     requires short_script { length script.now ≤ file_limit }
-    ensures { IfOk result (λ response. IsRefuteReply name.now bytes.now script.now (reply_of response)) }
+    ensures { IfOk result (λ response.
+        IsRefuteReply name.now bytes.now script.now (reply_of response)) }
 {
     match typed_source(alloc, bytes) {
         Ok(typed) => refute_typed(alloc, &typed, name, script),
@@ -250,8 +287,8 @@ pub fn respond(
     }
 }
 
-/// Of bytes that spell a file without a fault, and of a script that names a coproc from which only programs are reached, `refute` tells what a
-/// search gives.
+/// If bytes spell a file without an error, in which the name is that of a coproc that reaches only
+/// programs, and a text spells a script for it, `refute` gives the result of the search.
 pub fn coprocs_are_searched()
     ensures { CoprocsAreSearched }
 {

@@ -1,9 +1,12 @@
-//! `remainder FILE PROC NAME`: whether the pre of a procedure bounds the remainder of another one's lower bound.
+//! `remainder FILE PROC NAME`: whether the pre of NAME bounds the remainder in a lower bound on
+//! PROC.
 
 ghost use Rattle.heyvl_acts.specs.PlainActs.{procedures_of};
 ghost use Rattle.spelled_files.specs.Sources.{IsReady, file_limit};
 ghost use Rattle.command_rules.specs.Responses.{reply_of};
-ghost use Rattle.command_rules.specs.commands.Remainder.{IsRemainderOf, IsRemainderReply, RemainderPairsAreAnswered, TellsRemainder, remainder_reply};
+ghost use Rattle.command_rules.specs.commands.Remainder.{IsRemainderOf, IsRemainderReply};
+ghost use Rattle.command_rules.specs.commands.Remainder.{RemainderPairsAreAnswered, TellsRemainder};
+ghost use Rattle.command_rules.specs.commands.Remainder.{remainder_reply};
 ghost use Rattle.std.specs.Prelude.{IfOk, length, ◌<◌, ◌≡◌, ◌≤◌};
 
 use crate::procedure_commands::procedures::procedure_named;
@@ -18,7 +21,7 @@ use lower_texts::remainder_text;
 use std::alloc::{AllocError, Global};
 use verify_core::verify;
 
-/// What is said of an answer that has this text.
+/// Returns the reply with the line on an answer, and its status.
 fn reply(alloc: Global, answer: &Remainder, text: Vec<u8>) -> Response
     ensures { reply_of result ≡ remainder_reply answer.now text.items }
 {
@@ -32,7 +35,7 @@ fn reply(alloc: Global, answer: &Remainder, text: Vec<u8>) -> Response
     }
 }
 
-/// What is said of the procedures with these numbers.
+/// Returns the reply about the procedures `p` and `q`.
 fn of_pair(
     alloc: Global,
     bytes: &[u8],
@@ -44,7 +47,8 @@ fn of_pair(
     requires ready { IsReady bytes.now typed.now }
     requires first { p < length typed.now.procs.items }
     requires second { q < length typed.now.procs.items }
-    ensures { IfOk result (λ response. TellsRemainder bytes.now (procedures_of typed.now) p q (reply_of response)) }
+    ensures { IfOk result (λ response.
+        TellsRemainder bytes.now (procedures_of typed.now) p q (reply_of response)) }
 {
     let whole = verify(alloc, typed)?;
     let answer = remainder(alloc, typed, &whole.answers, p, q)?;
@@ -52,7 +56,8 @@ fn of_pair(
     Ok(reply(alloc, &answer, text))
 }
 
-/// What is said of the procedures of these names: that no procedure has the one or the other name; or else what is answered of them.
+/// Returns the reply about the procedures with these names: that no procedure has one of the names,
+/// or the answer on the pair.
 fn of_names(
     alloc: Global,
     bytes: &[u8],
@@ -62,7 +67,9 @@ fn of_names(
 ) -> Result<Response, AllocError>
     requires short { length bytes.now ≤ file_limit }
     requires ready { IsReady bytes.now typed.now }
-    ensures { IfOk result (λ response. IsRemainderOf procedure.now name.now bytes.now (procedures_of typed.now) (reply_of response)) }
+    ensures { IfOk result (λ response.
+        IsRemainderOf procedure.now name.now bytes.now (procedures_of typed.now)
+        (reply_of response)) }
 {
     let first = procedure_named(typed, procedure);
     let second = procedure_named(typed, name);
@@ -75,7 +82,7 @@ fn of_names(
     }
 }
 
-/// What `remainder` says of a file with these bytes, and of the names of two procedures.
+/// Returns the reply of `remainder` to a file with these bytes and the names of two procedures.
 pub fn respond(
     alloc: Global,
     bytes: &[u8],
@@ -83,7 +90,8 @@ pub fn respond(
     name: &[u8],
 ) -> Result<Response, AllocError>
     requires { length bytes.now ≤ file_limit }
-    ensures { IfOk result (λ response. IsRemainderReply procedure.now name.now bytes.now (reply_of response)) }
+    ensures { IfOk result (λ response.
+        IsRemainderReply procedure.now name.now bytes.now (reply_of response)) }
 {
     match typed_source(alloc, bytes) {
         Ok(typed) => of_names(alloc, bytes, &typed, procedure, name),
@@ -91,7 +99,8 @@ pub fn respond(
     }
 }
 
-/// Of bytes that spell a file without a fault, and of the names of two of its procedures, `remainder` tells what is answered of these.
+/// If bytes spell a file without an error that has both procedures, `remainder` gives the answer on
+/// them.
 pub fn remainder_pairs_are_answered()
     ensures { RemainderPairsAreAnswered }
 {

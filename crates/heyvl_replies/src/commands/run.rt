@@ -1,11 +1,12 @@
-//! `run FILE PROC SCRIPT`: the sums over the runs of a procedure of a file, by a script.
+//! `run FILE PROC SCRIPT`: the sums over the runs of a procedure under a script.
 
 ghost use Rattle.heyvl_acts.specs.PlainActs.{procedures_of};
 ghost use Rattle.heyvl_acts.specs.Rules.{MeetsAllRules};
 ghost use Rattle.spelled_files.specs.Sources.{file_limit};
 ghost use Rattle.command_rules.specs.Responses.{reply_of};
 ghost use Rattle.command_rules.specs.RunStarts.{known_at, procedure_named};
-ghost use Rattle.command_rules.specs.commands.Run.{IsRunOf, IsRunReply, ProgramsAreRun, TellsRun, run_reply};
+ghost use Rattle.command_rules.specs.commands.Run.{IsRunOf, IsRunReply, ProgramsAreRun, TellsRun};
+ghost use Rattle.command_rules.specs.commands.Run.{run_reply};
 ghost use Rattle.run_machine.specs.ConfigConditions.{ReachesPrograms};
 ghost use Rattle.run_script.specs.PlainScripts.{script_of};
 ghost use Rattle.run_script.specs.Scripts.{Spells};
@@ -22,7 +23,7 @@ use run_script::{Script, ScriptStop, read_script, start_state, stop_text, sums_t
 use run_unroller::{Unrolled, unroll};
 use std::alloc::{AllocError, Global};
 
-/// The text of the sums, or of what stopped the run.
+/// Returns the text of the sums, or of what stopped the run.
 pub(crate) fn run_text(alloc: Global, answer: &Unrolled) -> Result<Vec<u8>, AllocError>
     ensures { IfOk result (λ text. text.items ≡ (run_reply answer.now).output) }
 {
@@ -34,7 +35,7 @@ pub(crate) fn run_text(alloc: Global, answer: &Unrolled) -> Result<Vec<u8>, Allo
     }
 }
 
-/// The fault of a run that was stopped, or none where it came to sums.
+/// Returns the fault of a run that was stopped, or `Nothing` if it has sums.
 pub(crate) fn run_fault(answer: Unrolled) -> Fault
     ensures { result ≡ (run_reply answer).fault }
 {
@@ -44,7 +45,7 @@ pub(crate) fn run_fault(answer: Unrolled) -> Fault
     }
 }
 
-/// What is said of the sums, or of what stopped the run.
+/// Returns the reply with the sums, or with what stopped the run.
 fn run_answer(alloc: Global, answer: Unrolled) -> Result<Response, AllocError>
     ensures { IfOk result (λ response. reply_of response ≡ run_reply answer) }
 {
@@ -52,7 +53,7 @@ fn run_answer(alloc: Global, answer: Unrolled) -> Result<Response, AllocError>
     Ok(message(alloc, run_fault(answer), Text::Made(text)))
 }
 
-/// What the run of a procedure that reaches programs alone comes to.
+/// Returns the reply with the result of the run of a procedure that reaches only programs.
 fn run_programs(
     alloc: Global,
     typed: &Typed,
@@ -63,7 +64,8 @@ fn run_programs(
     requires rules { MeetsAllRules typed.now }
     requires programs { ReachesPrograms (procedures_of typed.now) p }
     requires steps { script.now.steps ≤ 10000 }
-    ensures { IfOk result (λ response. TellsRun (procedures_of typed.now) p (script_of script.now) (reply_of response)) }
+    ensures { IfOk result (λ response.
+        TellsRun (procedures_of typed.now) p (script_of script.now) (reply_of response)) }
 {
     let state = start_state(alloc, procedure(typed, p), &script.settings)?;
     let first = begin(alloc, typed, p, &state)?;
@@ -71,13 +73,15 @@ fn run_programs(
     run_answer(alloc, answer)
 }
 
-/// What is said of the run of a procedure by a script.
+/// Returns the reply to a procedure and a script.
 fn run_at(alloc: Global, typed: &Typed, p: u32, script: &Script) -> Result<Response, AllocError>
     requires there { p < length typed.now.procs.items }
     requires rules { MeetsAllRules typed.now }
     requires steps { script.now.steps ≤ 10000 }
-    ensures { IfOk result (λ response. (name bytes : List ℕ) → procedure_named name (procedures_of typed.now) ≡ Some p
-        → Spells (known_at (procedures_of typed.now) (procedure_named name (procedures_of typed.now))) (script_of script.now) bytes
+    ensures { IfOk result (λ response. (name bytes : List ℕ)
+        → procedure_named name (procedures_of typed.now) ≡ Some p
+        → Spells (known_at (procedures_of typed.now)
+        (procedure_named name (procedures_of typed.now))) (script_of script.now) bytes
         → IsRunOf name bytes (procedures_of typed.now) (reply_of response)) }
 {
     match first_no_program(alloc, typed, p)? {
@@ -86,8 +90,9 @@ fn run_at(alloc: Global, typed: &Typed, p: u32, script: &Script) -> Result<Respo
     }
 }
 
-/// What is said of the typed tree of a file, the name of a procedure and a script: the first line with which no script goes on; or else
-/// that no procedure has the name; or else the first procedure that is no program; or else what the run comes to.
+/// Returns the reply to a typed file, the name of a procedure and a script, by the first case that
+/// applies: the script's first invalid line; that no procedure has this name; the first procedure
+/// reached that is no program; otherwise the result of the run.
 fn run_typed(
     alloc: Global,
     typed: &Typed,
@@ -96,7 +101,8 @@ fn run_typed(
 ) -> Result<Response, AllocError>
     requires rules { MeetsAllRules typed.now }
     requires short { length script.now ≤ file_limit }
-    ensures { IfOk result (λ response. IsRunOf name.now script.now (procedures_of typed.now) (reply_of response)) }
+    ensures { IfOk result (λ response.
+        IsRunOf name.now script.now (procedures_of typed.now) (reply_of response)) }
 {
     let found = procedure_named(typed, name);
     let known = known_at(typed, found);
@@ -110,7 +116,7 @@ fn run_typed(
     }
 }
 
-/// What `run` says of a file with these bytes, of the name of a procedure and of a script.
+/// Returns the reply of `run` to a file with these bytes, the name of a procedure and a script.
 pub fn respond(
     alloc: Global,
     bytes: &[u8],
@@ -119,7 +125,8 @@ pub fn respond(
 ) -> Result<Response, AllocError>
     requires short { length bytes.now ≤ file_limit }
     requires short_script { length script.now ≤ file_limit }
-    ensures { IfOk result (λ response. IsRunReply name.now bytes.now script.now (reply_of response)) }
+    ensures { IfOk result (λ response.
+        IsRunReply name.now bytes.now script.now (reply_of response)) }
 {
     match typed_source(alloc, bytes) {
         Ok(typed) => run_typed(alloc, &typed, name, script),
@@ -127,8 +134,8 @@ pub fn respond(
     }
 }
 
-/// Of bytes that spell a file without a fault, and of a script that names a procedure from which only programs are reached, `run` tells what
-/// its runs come to.
+/// If bytes spell a file without an error, in which the name is that of a procedure that reaches
+/// only programs, and a text spells a script for it, `run` gives the result of its runs.
 pub fn programs_are_run()
     ensures { ProgramsAreRun }
 {

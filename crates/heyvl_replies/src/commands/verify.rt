@@ -14,18 +14,19 @@ use std::alloc::{AllocError, Global};
 use verdict_report::report;
 use verify_core::verify;
 
-/// The report on a file with these bytes, which has become this typed tree.
+/// Returns the report on a file with these bytes and this typed tree.
 fn report_typed(alloc: Global, bytes: &[u8], typed: &Typed) -> Result<Response, AllocError>
     requires short { length bytes.now ≤ file_limit }
     requires ready { IsReady bytes.now typed.now }
-    ensures { IfOk result (λ response. IsReport bytes.now (procedures_of typed.now) (reply_of response)) }
+    ensures { IfOk result (λ response.
+        IsReport bytes.now (procedures_of typed.now) (reply_of response)) }
 {
     let whole = verify(alloc, typed)?;
     let text = report(alloc, bytes, typed, &whole.answers, &whole.made)?;
     Ok(answered(whole.answers, text))
 }
 
-/// What `verify` says of a file with these bytes.
+/// Returns the reply of `verify` to a file with these bytes.
 pub fn respond(alloc: Global, bytes: &[u8]) -> Result<Response, AllocError>
     requires { length bytes.now ≤ file_limit }
     ensures { IfOk result (λ response. IsVerifyReply bytes.now (reply_of response)) }
@@ -36,7 +37,8 @@ pub fn respond(alloc: Global, bytes: &[u8]) -> Result<Response, AllocError>
     }
 }
 
-/// Of bytes that spell a file without a fault `verify` answers every procedure, its report is written, and the status is 0, 1 or 2.
+/// If bytes spell a file without an error, `verify` answers each procedure and writes the report,
+/// and the status is 0, 1 or 2.
 pub fn files_are_verified()
     ensures { FilesAreVerified }
 {

@@ -1,4 +1,4 @@
-//! The procedure that a name names, and which ones have to be programs.
+//! The procedure with a name, and the procedures that have to be programs.
 
 ghost use Rattle.heyvl_acts.specs.Acts.{procedure_at};
 ghost use Rattle.heyvl_acts.specs.PlainActs.{procedure_of, procedures_of};
@@ -14,7 +14,7 @@ use heyvl_acts::{TProc, Typed};
 use proc_contracts::{not_program, reach};
 use std::alloc::{AllocError, Global};
 
-/// The procedure of this number.
+/// Returns the procedure with the number `p`.
 pub(crate) fn procedure(typed: &Typed, p: u32) -> &TProc
     requires there { p < length typed.now.procs.items }
     requires rules { MeetsAllRules typed.now }
@@ -24,7 +24,6 @@ pub(crate) fn procedure(typed: &Typed, p: u32) -> &TProc
     &typed.procs[p as usize]
 }
 
-/// Whether the procedure is a coproc.
 pub(crate) fn is_coproc(typed: &Typed, p: u32) -> bool
     requires there { p < length typed.now.procs.items }
     requires rules { MeetsAllRules typed.now }
@@ -33,14 +32,14 @@ pub(crate) fn is_coproc(typed: &Typed, p: u32) -> bool
     procedure(typed, p).co
 }
 
-/// Whether the procedure has this name.
+/// Returns whether the procedure has this name.
 fn has_name(name: &[u8], procedure: &TProc) -> bool
     ensures { result ≡ bytes_eq name.now (procedure_of procedure.now).name }
 {
     name == procedure.name.as_bytes()
 }
 
-/// The first procedure of this name.
+/// Returns the number of the first procedure with this name.
 pub(crate) fn procedure_named(typed: &Typed, name: &[u8]) -> Option<u32>
     requires { length typed.now.procs.items < 2 ^ 31 }
     ensures value { result ≡ procedure_named name.now (procedures_of typed.now) }
@@ -56,7 +55,7 @@ pub(crate) fn procedure_named(typed: &Typed, name: &[u8]) -> Option<u32>
     None
 }
 
-/// Whether the procedure is no program.
+/// Returns whether the procedure with the number `p` is no program.
 fn is_no_program(typed: &Typed, p: u32) -> bool
     requires { p < length typed.now.procs.items }
     ensures { result ≡ is_some (why_no_program (procedure_at (procedures_of typed.now) p)) }
@@ -64,10 +63,11 @@ fn is_no_program(typed: &Typed, p: u32) -> bool
     not_program(typed, p).is_some()
 }
 
-/// The first of these procedures that is no program.
+/// Returns the first of these procedures that is no program.
 fn first_no_program_of(typed: &Typed, all: &[u32]) -> Option<u32>
     requires { All (λ q. q < length typed.now.procs.items) all.now }
-    ensures { result ≡ find (λ q. is_some (why_no_program (procedure_at (procedures_of typed.now) q))) all.now }
+    ensures { result ≡ find (λ q.
+        is_some (why_no_program (procedure_at (procedures_of typed.now) q))) all.now }
 {
     for q in all {
         if is_no_program(typed, *q) {
@@ -77,7 +77,7 @@ fn first_no_program_of(typed: &Typed, all: &[u32]) -> Option<u32>
     None
 }
 
-/// The procedure itself, or the first that it reaches, that is no program.
+/// Returns the first procedure that is no program: `p` itself, or else one that `p` reaches.
 pub(crate) fn first_no_program(
     alloc: Global,
     typed: &Typed,
@@ -85,7 +85,9 @@ pub(crate) fn first_no_program(
 ) -> Result<Option<u32>, AllocError>
     requires there { p < length typed.now.procs.items }
     requires rules { MeetsAllRules typed.now }
-    ensures first { IfOk result (λ found. MatchOption found (ReachesPrograms (procedures_of typed.now) p) (λ q. IsFirstNoProgram (procedures_of typed.now) p q)) }
+    ensures first { IfOk result
+        (λ found. MatchOption found (ReachesPrograms (procedures_of typed.now) p)
+        (λ q. IsFirstNoProgram (procedures_of typed.now) p q)) }
     ensures below { IfOk result (λ found. IfSome found (λ q. q < length typed.now.procs.items)) }
 {
     if is_no_program(typed, p) {

@@ -1,11 +1,11 @@
-//! What commands write of a procedure.
+//! Lines about a procedure.
 
 ghost use Rattle.command_rules.specs.RunTexts.{no_coproc_text, no_program_text};
 ghost use Rattle.std.specs.Prelude.{IfOk, ◌≡◌};
 
 use std::alloc::{AllocError, Global};
 
-/// The line on a procedure that is no program.
+/// Returns the line on a procedure that is no program.
 pub(crate) fn no_program_text(alloc: Global, name: &[u8]) -> Result<Vec<u8>, AllocError>
     ensures { IfOk result (λ text. text.items ≡ no_program_text name.now) }
 {
@@ -15,7 +15,7 @@ pub(crate) fn no_program_text(alloc: Global, name: &[u8]) -> Result<Vec<u8>, All
     Ok(text)
 }
 
-/// The line on a procedure that is no coproc.
+/// Returns the line on a procedure that is no coproc.
 pub(crate) fn no_coproc_text(alloc: Global, name: &[u8]) -> Result<Vec<u8>, AllocError>
     ensures { IfOk result (λ text. text.items ≡ no_coproc_text name.now) }
 {
