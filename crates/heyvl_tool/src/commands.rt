@@ -1,4 +1,4 @@
-//! The commands: what each says of the bytes of its files.
+//! The replies of the commands to the bytes of their files.
 
 ghost use Rattle.spelled_files.specs.Sources.{file_limit};
 ghost use Rattle.command_rules.specs.Responses.{reply_of};
@@ -12,8 +12,8 @@ use heyvl_replies::commands::{
 };
 use std::alloc::{AllocError, Global};
 
-/// What a command says of the bytes of its first file and of its second, which are none where it has no such file. Either has at most as
-/// many bytes as a file may have.
+/// Returns the reply of a command to the bytes of its first file and of its second one. They are
+/// empty for a file that the command does not have.
 pub fn respond(
     alloc: Global,
     settings: &Settings,
@@ -23,7 +23,8 @@ pub fn respond(
     requires fits { (request_of settings.now).fits ≡ true }
     requires short { length bytes.now ≤ file_limit }
     requires short_second { length second.now ≤ file_limit }
-    ensures { IfOk result (λ response. IsReplyTo settings.now bytes.now second.now (reply_of response)) }
+    ensures { IfOk result (λ response.
+        IsReplyTo settings.now bytes.now second.now (reply_of response)) }
 {
     match settings {
         Settings::Verify(_) => verify::respond(alloc, bytes),

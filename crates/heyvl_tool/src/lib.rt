@@ -1,4 +1,6 @@
-//! The top call of Caesar, and what belongs to its commands.
+//! The whole program as one function, `run_tool`.
+//!
+//! `AllocError` means that memory ran out.
 #![tactic(auto)]
 
 mod commands;

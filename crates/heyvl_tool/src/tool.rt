@@ -1,4 +1,4 @@
-//! The top call.
+//! The whole program.
 
 ghost use Rattle.heyvl_io.specs.declared.reader.ReadStop.{ReadStop};
 ghost use Rattle.spelled_files.specs.Sources.{file_limit};
@@ -29,36 +29,62 @@ use spelled_files::program_files_have_sums;
 use std::alloc::{AllocError, Global};
 use tool_laws::broken_bounds_are_never_verified;
 
-/// The most bytes that a file may have.
+/// The largest number of bytes of a file.
 pub const FILE_LIMIT: usize = 1_048_576;
 
-/// Does what the words ask for: reads the files of the command from the source, the second behind the first, and writes one text to the
-/// sink. `verify FILE` writes the report of the file's answers, `print FILE` its canonical text, `run FILE PROC SCRIPT` the sums over runs,
-/// `certify FILE` the certificates of the file's proved goals, `check FILE CERT` the report by certificates, `gen N` the summary of the answers on
-/// a generated text, `pgcl FILE` the file that a program of guarded commands becomes, `omega FILE PROC NAME` and `remainder FILE PROC NAME`
-/// whether a bound from below holds, and `refute FILE PROC SCRIPT` whether runs pass a bound. A file of HeyVL with one of the faults 1 to 6
-/// is refused by each, and one with a static fault by all but `print`.
+/// Does what the arguments ask for: reads the files of the command from the source, one after the
+/// other, and writes one text to the sink.
+///
+/// | arguments | text |
+/// |---|---|
+/// | `verify FILE` | the report on the file |
+/// | `print FILE` | its canonical text |
+/// | `run FILE PROC SCRIPT` | the sums over runs |
+/// | `certify FILE` | the certificates of the proved goals |
+/// | `check FILE CERT` | the report by certificates |
+/// | `gen N` | the summary of the answers on a generated text |
+/// | `pgcl FILE` | the HeyVL file of a program of guarded commands |
+/// | `omega FILE PROC NAME`, `remainder FILE PROC NAME` | whether a lower bound holds |
+/// | `refute FILE PROC SCRIPT` | whether runs exceed a bound |
+///
+/// A file of HeyVL with one of the errors 1 to 6 is refused by each command, and one with a static
+/// error by each but `print`.
 pub fn run_tool<F: Source, K: Sink>(
     alloc: Global,
     words: &Vec<String>,
     source: &mut F,
     sink: &mut K,
 ) -> Outcome
-    // A reply that has its cause was written, whole or up to a failure of the sink; or there was no memory.
-    ensures answered { IsAnswered (⟦<F as Called>⟧.made (map string_bytes words.now.items) source.old source.new) (⟦<K as Written>⟧.done sink.old sink.new) result
+    // A reply that has its cause was written, as a whole or up to a failure of the sink; or memory
+    // ran out.
+    ensures answered { IsAnswered
+        (⟦<F as Called>⟧.made (map string_bytes words.now.items) source.old source.new)
+        (⟦<K as Written>⟧.done sink.old sink.new) result
         ⊎ IsOutOfMemory (⟦<K as Written>⟧.done sink.old sink.new) result }
 
-    // What the answers mean, the numbers of a run, the file that a program of guarded commands becomes, the bounds from below and the
-    // violations, for the bytes that were read: those that the source holds, where it tells them. Any source may be meant, also one that
-    // tells nothing.
-    ensures verified { AnswersAreMeant (⟦<F as Called>⟧.made (map string_bytes words.now.items) source.old source.new) (⟦<K as Written>⟧.done sink.old sink.new) result }
-    ensures summed { SumsAreMeant (⟦<F as Called>⟧.made (map string_bytes words.now.items) source.old source.new) (⟦<K as Written>⟧.done sink.old sink.new) result }
-    ensures translated { ProgramsAreMeant (⟦<F as Called>⟧.made (map string_bytes words.now.items) source.old source.new) (⟦<K as Written>⟧.done sink.old sink.new) result }
-    ensures bounded { BoundsAreMeant (⟦<F as Called>⟧.made (map string_bytes words.now.items) source.old source.new) (⟦<K as Written>⟧.done sink.old sink.new) result }
-    ensures refuted { ViolationsAreMeant (⟦<F as Called>⟧.made (map string_bytes words.now.items) source.old source.new) (⟦<K as Written>⟧.done sink.old sink.new) result }
+    // The meaning of the answers, of the sums of a run, of the file of a program of guarded
+    // commands, of lower bounds and of violations. It is about the bytes that were read: those that
+    // the source holds, if it reports them. It also applies to a source that reports nothing.
+    ensures verified { AnswersAreMeant
+        (⟦<F as Called>⟧.made (map string_bytes words.now.items) source.old source.new)
+        (⟦<K as Written>⟧.done sink.old sink.new) result }
+    ensures summed { SumsAreMeant
+        (⟦<F as Called>⟧.made (map string_bytes words.now.items) source.old source.new)
+        (⟦<K as Written>⟧.done sink.old sink.new) result }
+    ensures translated { ProgramsAreMeant
+        (⟦<F as Called>⟧.made (map string_bytes words.now.items) source.old source.new)
+        (⟦<K as Written>⟧.done sink.old sink.new) result }
+    ensures bounded { BoundsAreMeant
+        (⟦<F as Called>⟧.made (map string_bytes words.now.items) source.old source.new)
+        (⟦<K as Written>⟧.done sink.old sink.new) result }
+    ensures refuted { ViolationsAreMeant
+        (⟦<F as Called>⟧.made (map string_bytes words.now.items) source.old source.new)
+        (⟦<K as Written>⟧.done sink.old sink.new) result }
 
-    // Which names are started.
-    ensures started { IsStartedRight (⟦<F as Called>⟧.made (map string_bytes words.now.items) source.old source.new) (result.fault ≡ Fault.Memory) }
+    // The names that are started.
+    ensures started { IsStartedRight
+        (⟦<F as Called>⟧.made (map string_bytes words.now.items) source.old source.new)
+        (result.fault ≡ Fault.Memory) }
     ensures source_names { F.names source.new ≡ F.names source.old }
     ensures source_holds { F.holds source.new ≡ F.holds source.old }
     ensures source_count { F.faults source.old ≤ F.faults source.new }
@@ -80,14 +106,19 @@ pub fn run_tool<F: Source, K: Sink>(
     }
 }
 
-/// The reply to a call, before it is written.
+/// Returns the reply to a call, before it is written.
 fn response_to<F: Source>(
     alloc: Global,
     words: &Vec<String>,
     source: &mut F,
 ) -> Result<Response, AllocError>
-    ensures cause { IfOk result (λ response. HasCause (⟦<F as Called>⟧.made (map string_bytes words.now.items) source.old source.new) (reply_of response)) }
-    ensures started { IsStartedRight (⟦<F as Called>⟧.made (map string_bytes words.now.items) source.old source.new) (IsErr result) }
+    ensures cause { IfOk result
+        (λ response.
+        HasCause (⟦<F as Called>⟧.made (map string_bytes words.now.items) source.old source.new)
+        (reply_of response)) }
+    ensures started { IsStartedRight
+        (⟦<F as Called>⟧.made (map string_bytes words.now.items) source.old source.new)
+        (IsErr result) }
     ensures kept { ⟦<F as Called>⟧.kept source.old source.new }
 {
     match settings(alloc, words) {
@@ -97,16 +128,19 @@ fn response_to<F: Source>(
     }
 }
 
-/// The reply to a command, from the reading of its files on.
+/// Returns the reply of a command, and reads its files.
 fn answer_to<F: Source>(
     alloc: Global,
     settings: &Settings,
     source: &mut F,
 ) -> Result<Response, AllocError>
     requires { (request_of settings.now).fits ≡ true }
-    ensures answer { IfOk result (λ response. IsFilesReply (files_of settings.now) (IsReplyTo settings.now) (⟦<F as Called>⟧.told source.old)
+    ensures answer { IfOk result
+        (λ response. IsFilesReply (files_of settings.now) (IsReplyTo settings.now)
+        (⟦<F as Called>⟧.told source.old)
         (⟦<F as Called>⟧.seen source.old) (⟦<F as Called>⟧.seen source.new) (reply_of response)) }
-    ensures turn { IsReadInTurn (files_of settings.now) (⟦<F as Called>⟧.told source.old) (⟦<F as Called>⟧.seen source.old) (⟦<F as Called>⟧.seen source.new) }
+    ensures turn { IsReadInTurn (files_of settings.now) (⟦<F as Called>⟧.told source.old)
+        (⟦<F as Called>⟧.seen source.old) (⟦<F as Called>⟧.seen source.new) }
     ensures kept { ⟦<F as Called>⟧.kept source.old source.new }
 {
     match settings.files() {
@@ -116,7 +150,7 @@ fn answer_to<F: Source>(
     }
 }
 
-/// The reply to a command that reads this file.
+/// Returns the reply of a command, and reads this file.
 fn answer_one<F: Source>(
     alloc: Global,
     settings: &Settings,
@@ -124,9 +158,12 @@ fn answer_one<F: Source>(
     source: &mut F,
 ) -> Result<Response, AllocError>
     requires { (request_of settings.now).fits ≡ true }
-    ensures answer { IfOk result (λ response. IsFilesReply (one file.now) (IsReplyTo settings.now) (⟦<F as Called>⟧.told source.old)
+    ensures answer { IfOk result
+        (λ response. IsFilesReply (one file.now) (IsReplyTo settings.now)
+        (⟦<F as Called>⟧.told source.old)
         (⟦<F as Called>⟧.seen source.old) (⟦<F as Called>⟧.seen source.new) (reply_of response)) }
-    ensures turn { IsReadInTurn (one file.now) (⟦<F as Called>⟧.told source.old) (⟦<F as Called>⟧.seen source.old) (⟦<F as Called>⟧.seen source.new) }
+    ensures turn { IsReadInTurn (one file.now) (⟦<F as Called>⟧.told source.old)
+        (⟦<F as Called>⟧.seen source.old) (⟦<F as Called>⟧.seen source.new) }
     ensures kept { ⟦<F as Called>⟧.kept source.old source.new }
 {
     match read_all(alloc, source, file, FILE_LIMIT) {
@@ -135,7 +172,7 @@ fn answer_one<F: Source>(
     }
 }
 
-/// The reply to a command that reads these two files.
+/// Returns the reply of a command, and reads these two files.
 fn answer_two<F: Source>(
     alloc: Global,
     settings: &Settings,
@@ -144,9 +181,12 @@ fn answer_two<F: Source>(
     source: &mut F,
 ) -> Result<Response, AllocError>
     requires { (request_of settings.now).fits ≡ true }
-    ensures answer { IfOk result (λ response. IsFilesReply (two file.now second.now) (IsReplyTo settings.now) (⟦<F as Called>⟧.told source.old)
+    ensures answer { IfOk result
+        (λ response. IsFilesReply (two file.now second.now) (IsReplyTo settings.now)
+        (⟦<F as Called>⟧.told source.old)
         (⟦<F as Called>⟧.seen source.old) (⟦<F as Called>⟧.seen source.new) (reply_of response)) }
-    ensures turn { IsReadInTurn (two file.now second.now) (⟦<F as Called>⟧.told source.old) (⟦<F as Called>⟧.seen source.old) (⟦<F as Called>⟧.seen source.new) }
+    ensures turn { IsReadInTurn (two file.now second.now) (⟦<F as Called>⟧.told source.old)
+        (⟦<F as Called>⟧.seen source.old) (⟦<F as Called>⟧.seen source.new) }
     ensures kept { ⟦<F as Called>⟧.kept source.old source.new }
 {
     match read_all(alloc, source, file, FILE_LIMIT) {
@@ -155,7 +195,7 @@ fn answer_two<F: Source>(
     }
 }
 
-/// The reply to a command whose first file has these bytes, and that reads this one behind it.
+/// Returns the reply of a command whose first file has these bytes, and reads its second file.
 fn answer_second<F: Source>(
     alloc: Global,
     settings: &Settings,
@@ -165,10 +205,13 @@ fn answer_second<F: Source>(
 ) -> Result<Response, AllocError>
     requires fits { (request_of settings.now).fits ≡ true }
     requires short { length bytes.now ≤ file_limit }
-    ensures answer { IfOk result (λ response. IsReadReply 1 (⟦<F as Called>⟧.told source.old) second.now
-        (λ text now r. IsSaid (IsReplyTo settings.now bytes.now text) now (⟦<F as Called>⟧.seen source.new) r)
+    ensures answer { IfOk result
+        (λ response. IsReadReply 1 (⟦<F as Called>⟧.told source.old) second.now
+        (λ text now r. IsSaid (IsReplyTo settings.now bytes.now text) now
+        (⟦<F as Called>⟧.seen source.new) r)
         (⟦<F as Called>⟧.seen source.old) (⟦<F as Called>⟧.seen source.new) (reply_of response)) }
-    ensures started { IsStartedOnce (⟦<F as Called>⟧.told source.old) second.now (⟦<F as Called>⟧.seen source.old) (⟦<F as Called>⟧.seen source.new) }
+    ensures started { IsStartedOnce (⟦<F as Called>⟧.told source.old) second.now
+        (⟦<F as Called>⟧.seen source.old) (⟦<F as Called>⟧.seen source.new) }
     ensures kept { ⟦<F as Called>⟧.kept source.old source.new }
 {
     match read_all(alloc, source, second, FILE_LIMIT) {
@@ -177,7 +220,7 @@ fn answer_second<F: Source>(
     }
 }
 
-/// The reply where the file of this number isn't read to its end.
+/// Returns the reply if the file with this number is not read to its end.
 fn unread(alloc: Global, stop: ReadStop, number: u8) -> Result<Response, AllocError>
     ensures { IfOk result (λ response. IsUnread number stop (reply_of response)) }
 {
@@ -193,7 +236,8 @@ fn unread(alloc: Global, stop: ReadStop, number: u8) -> Result<Response, AllocEr
 
 /// Writes the reply to a call.
 fn deliver<K: Sink>(response: Response, sink: &mut K) -> Outcome
-    ensures delivered { IsDelivered (reply_of response) (⟦<K as Written>⟧.done sink.old sink.new) result }
+    ensures delivered { IsDelivered (reply_of response)
+        (⟦<K as Written>⟧.done sink.old sink.new) result }
     ensures count { K.faults sink.old ≤ K.faults sink.new }
 {
     match write_all(sink, response.text.as_bytes()) {
