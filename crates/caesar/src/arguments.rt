@@ -1,11 +1,11 @@
-//! The words of the command line.
+//! The arguments of the command line.
 
 use std::alloc::AllocError;
 use std::env::{self, FillError};
 use std::io::ErrorKind;
 use std::rt::Env;
 
-/// An environment whose arguments begin behind the program's name. The name itself is not read, as it may be any bytes.
+/// An environment without the program's name. The name is not read, as it may be any bytes.
 #[derive(Drop)]
 struct WithoutName<'a, R>(&'a R);
 
@@ -26,7 +26,11 @@ impl<'a, R: Env> Env for WithoutName<'a, R> {
     }
 }
 
-/// The words behind the program's name, or none where one of them isn't UTF-8.
+/// Returns the arguments after the program's name, or none if one of them is not UTF-8.
+///
+/// # Errors
+///
+/// Memory ran out.
 pub(crate) fn words<R: Env + AllocGlobal>(rt: &R) -> Result<Vec<String>, AllocError> {
     match env::args(&(WithoutName(rt), rt.alloc())) {
         Ok(args) => {

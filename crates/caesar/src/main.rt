@@ -1,4 +1,5 @@
-//! The program `caesar`: collects the words of the command line, and ends with the status of the top call.
+//! The program `caesar`: collects the arguments of the command line, and exits with the status of
+//! `run_tool`.
 #![tactic(auto)]
 
 mod arguments;
@@ -8,7 +9,7 @@ use heyvl_io::{FileSource, StdoutSink};
 use heyvl_tool::run_tool;
 use std::process::ExitCode;
 
-/// The exit status where there is no memory for the words.
+/// The exit status if memory for the arguments runs out.
 const NO_MEMORY: u8 = 7;
 
 fn main(rt: HostRuntime) -> ExitCode {
