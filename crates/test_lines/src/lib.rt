@@ -1,5 +1,7 @@
-//! What tests by lines have in common: how lines are held against what the libraries give, and how their parts are read and written.
-//! It claims nothing.
+//! Shared parts of tests by lines: comparing the lines with the results of the libraries, and
+//! reading and writing their parts. The crate promises nothing.
+//!
+//! `AllocError` means that memory ran out, or that a line of a test is malformed.
 #![tactic(auto)]
 
 mod lines;

@@ -1,15 +1,15 @@
-//! Lines of tests: what is asked, the word `gives`, and what is wanted.
+//! Lines of tests: a question, the word `gives`, and the expected result.
 
 use std::alloc::{AllocError, Global};
 use std::fmt::Write;
 
-/// A kind of lines: what they ask.
+/// A kind of lines, which says how a question is answered.
 pub trait LineKind {
-    /// Writes what the libraries give for what a line asks.
+    /// Appends the result of the libraries for the question of a line.
     fn write_answer(&self, alloc: Global, asked: &str, text: &mut String) -> Result<(), AllocError>;
 }
 
-/// Writes a line and what is given for it, where that isn't what it wants.
+/// Appends a line and its result, if the result is not the expected one.
 fn write_difference<K: LineKind>(
     alloc: Global,
     kind: &K,
@@ -25,7 +25,7 @@ fn write_difference<K: LineKind>(
     Ok(())
 }
 
-/// Whether the line only tells about the next ones.
+/// Returns whether the line is a comment on the lines after it.
 fn is_comment(line: &str) -> bool {
     line.starts_with('#') && !line.contains(" gives")
 }
@@ -44,8 +44,8 @@ fn write_differences<K: LineKind>(
     Ok(())
 }
 
-/// The lines of the texts for which something else is given than they want, each with what that is; no text where there are none. A line
-/// that begins with `#`, and wants nothing, tells about the next ones.
+/// Returns the lines of the texts whose results are not the expected ones, each with its result. A
+/// line that begins with `#` and has no `gives` is a comment on the lines after it.
 pub fn differences<K: LineKind>(
     alloc: Global,
     kind: &K,

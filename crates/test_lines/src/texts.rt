@@ -1,9 +1,9 @@
-//! How the parts of lines are written: columns, numbers and bytes.
+//! Parts of lines: columns, numbers and bytes. A malformed part yields `AllocError`.
 
 use std::alloc::{AllocError, Global};
 use std::fmt::Write;
 
-/// What stands before the first such mark, and what stands behind it; all of the text where there is none.
+/// Splits a text at the first `mark`, or at the end if there is none.
 pub fn cut(text: &str, mark: char) -> (&str, &str) {
     match text.split_once(mark) {
         Some((first, rest)) => (first.trim(), rest.trim()),
@@ -11,7 +11,7 @@ pub fn cut(text: &str, mark: char) -> (&str, &str) {
     }
 }
 
-/// A whole number; want of memory where the word is none, as with the numbers below.
+/// Reads an integer.
 pub fn whole(word: &str) -> Result<i128, AllocError> {
     match word.parse::<i128>() {
         Ok(n) => Ok(n),
@@ -19,7 +19,7 @@ pub fn whole(word: &str) -> Result<i128, AllocError> {
     }
 }
 
-/// A number from 0 on.
+/// Reads a natural number.
 pub fn unsigned(word: &str) -> Result<u128, AllocError> {
     match word.parse::<u128>() {
         Ok(n) => Ok(n),
@@ -27,7 +27,7 @@ pub fn unsigned(word: &str) -> Result<u128, AllocError> {
     }
 }
 
-/// A number of a row.
+/// Reads a coefficient of a row.
 pub fn coefficient(word: &str) -> Result<i64, AllocError> {
     match word.parse::<i64>() {
         Ok(n) => Ok(n),
@@ -35,7 +35,7 @@ pub fn coefficient(word: &str) -> Result<i64, AllocError> {
     }
 }
 
-/// The number of a variable or a row.
+/// Reads the number of a variable or of a row.
 pub fn index(word: &str) -> Result<u32, AllocError> {
     match word.parse::<u32>() {
         Ok(n) => Ok(n),
@@ -43,7 +43,7 @@ pub fn index(word: &str) -> Result<u32, AllocError> {
     }
 }
 
-/// How often something is taken, or which call it is.
+/// Reads a multiplier, or the number of a call.
 pub fn count(word: &str) -> Result<u64, AllocError> {
     match word.parse::<u64>() {
         Ok(n) => Ok(n),
@@ -51,7 +51,7 @@ pub fn count(word: &str) -> Result<u64, AllocError> {
     }
 }
 
-/// A number of bytes.
+/// Reads a number of bytes.
 pub fn size(word: &str) -> Result<usize, AllocError> {
     match word.parse::<usize>() {
         Ok(n) => Ok(n),
@@ -59,7 +59,7 @@ pub fn size(word: &str) -> Result<usize, AllocError> {
     }
 }
 
-/// The numbers of calls, with spaces between them.
+/// Reads the numbers of calls, with spaces between them.
 pub fn calls_of(alloc: Global, text: &str) -> Result<Vec<u64>, AllocError> {
     let mut calls = Vec::new(alloc);
     for word in text.split_whitespace() {
@@ -77,7 +77,7 @@ pub fn write_bytes(bytes: &[u8], text: &mut String) -> Result<(), AllocError> {
     text.push_str("] ")
 }
 
-/// Writes numbers behind a text, each with a space behind it.
+/// Appends numbers, each followed by a space.
 pub fn write_numbers(numbers: &[u32], text: &mut String) -> Result<(), AllocError> {
     for number in numbers {
         write!(text, "{number} ")?;
@@ -85,7 +85,8 @@ pub fn write_numbers(numbers: &[u32], text: &mut String) -> Result<(), AllocErro
     Ok(())
 }
 
-/// Writes the first multiples of a number behind a text, each between two texts: so many of them, and at most 1,000.
+/// Appends the first `count` multiples of `of`, at most 1,000 of them, each between the texts
+/// `before` and `after`.
 pub fn write_multiples(
     text: &mut String,
     count: u64,
