@@ -1,4 +1,5 @@
-//! Forms, conditions and goals of tests. The operands stand before their operator: `x 3 +` is the sum of the variable 0 and 3.
+//! Forms, conditions and goals of tests, in postfix notation: `x 3 +` is the sum of the variable 0
+//! and 3. A malformed text yields `AllocError`.
 
 use crate::numbers::{extended, fraction, types_of};
 use heylo_formula::{Cond, Form, Goal, Ty};
@@ -63,7 +64,7 @@ fn operator_of(word: &str) -> Option<Operator> {
     }
 }
 
-/// A product, as `*`, or as `*5` where its operator stands at the byte 5.
+/// Reads a product: `*`, or `*5` if its operator is at byte 5.
 fn product_of(word: &str) -> Option<Operator> {
     match word.strip_prefix('*') {
         Some(place) => Some(Operator::Product(place.parse::<u32>().unwrap_or(0))),
@@ -102,14 +103,14 @@ fn frame_of(word: &str) -> Option<Frame> {
     }
 }
 
-/// What was read of a text and isn't an operand yet.
+/// The operands that were read and are not used yet.
 #[derive(Drop)]
 struct Operands {
     forms: Vec<Box<Form>>,
     tests: Vec<Box<Cond>>,
 }
 
-/// The last form; want of memory where there is none, as with the condition below.
+/// Takes the last form.
 fn form(operands: &mut Operands) -> Result<Box<Form>, AllocError> {
     match operands.forms.pop() {
         Some(form) => Ok(form),
@@ -193,7 +194,7 @@ fn connect(alloc: Global, by: Connective, operands: &mut Operands) -> Result<(),
     push_test(alloc, whole, operands)
 }
 
-/// The first form where the condition holds, else the second.
+/// Takes a condition and two forms, and returns the form that selects between them.
 fn selected(operands: &mut Operands) -> Result<Form, AllocError> {
     let fails = form(operands)?;
     let holds = form(operands)?;
@@ -217,7 +218,7 @@ fn enclose(alloc: Global, by: Frame, operands: &mut Operands) -> Result<(), Allo
     push_form(alloc, whole, operands)
 }
 
-/// A number or infinity, or any variable, as v2.
+/// Reads a number, `inf`, or a variable such as `v2`.
 fn atom(word: &str) -> Result<Form, AllocError> {
     match word.strip_prefix('v') {
         Some(number) => Ok(Form::Var(index(number)?)),
@@ -225,7 +226,7 @@ fn atom(word: &str) -> Result<Form, AllocError> {
     }
 }
 
-/// A truth, or a variable, as b2.
+/// Reads a truth value, or a variable such as `b2`.
 fn truth(word: &str) -> Result<Cond, AllocError> {
     match word.strip_prefix('b') {
         Some(number) => Ok(Cond::Var(index(number)?)),
@@ -233,7 +234,7 @@ fn truth(word: &str) -> Result<Cond, AllocError> {
     }
 }
 
-/// The variables 0 and 1 are x and y.
+/// Reads an operand. The variables 0 and 1 are `x` and `y`.
 fn read_atom(alloc: Global, word: &str, operands: &mut Operands) -> Result<(), AllocError> {
     if word == "true" || word == "false" || word.starts_with('b') {
         return push_test(alloc, truth(word)?, operands);
@@ -246,7 +247,8 @@ fn read_atom(alloc: Global, word: &str, operands: &mut Operands) -> Result<(), A
     push_form(alloc, atom(word)?, operands)
 }
 
-/// A multiple, as `scale:1/2`, or the least value over a UInt, as `bind:1`, or what else has no two operands.
+/// Reads a multiple such as `scale:1/2`, an infimum over a UInt such as `bind:1`, or another
+/// operator that does not have two operands.
 fn read_other(alloc: Global, word: &str, operands: &mut Operands) -> Result<(), AllocError> {
     if let Some(by) = frame_of(word) {
         return enclose(alloc, by, operands);
@@ -298,19 +300,20 @@ fn goal(alloc: Global, upper: bool, stated: Form, found: Form, vars: Vec<Ty>) ->
     }
 }
 
-/// A form; want of memory where the text has none.
+/// Reads a form.
 pub fn form_of(alloc: Global, text: &str) -> Result<Box<Form>, AllocError> {
     let mut operands = operands_of(alloc, text)?;
     form(&mut operands)
 }
 
-/// A condition; want of memory where the text has none.
+/// Reads a condition.
 pub fn test_of(alloc: Global, text: &str) -> Result<Box<Cond>, AllocError> {
     let mut operands = operands_of(alloc, text)?;
     test(&mut operands)
 }
 
-/// A goal: the stated form and the found one, which is infinity where it isn't told. A lower goal has `lower` before them.
+/// Reads a goal: the stated bound and the computed form, which is infinity if it is missing. A
+/// lower goal begins with `lower`.
 pub fn goal_of(alloc: Global, text: &str, types: &str) -> Result<Goal, AllocError> {
     let (upper, text) = match text.strip_prefix("lower") {
         Some(rest) => (false, rest),

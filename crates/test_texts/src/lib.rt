@@ -1,4 +1,6 @@
-//! The texts of what tests of formulas, of rows and of goals have in common. It claims nothing.
+//! Shared texts of the tests of formulas, rows and goals. The crate promises nothing.
+//!
+//! `AllocError` means that memory ran out, or that a line of a test is malformed.
 #![tactic(auto)]
 
 mod forms;

@@ -1,4 +1,4 @@
-//! Fractions, types and multipliers of tests. Where a word is none of them, it is want of memory.
+//! Fractions, types and multipliers of tests. A malformed text yields `AllocError`.
 
 use heylo_formula::Ty;
 use heyvl_num::{Ext, Frac};
@@ -6,7 +6,7 @@ use std::alloc::{AllocError, Global};
 use std::fmt::Write;
 use test_lines::{count, cut, index, whole};
 
-/// A fraction, as `-1/2` or `3`.
+/// Reads a fraction such as `-1/2` or `3`.
 pub fn fraction(word: &str) -> Result<Frac, AllocError> {
     let (num, den) = cut(word, '/');
     let den = if den.is_empty() { 1 } else { whole(den)? };
@@ -16,7 +16,7 @@ pub fn fraction(word: &str) -> Result<Frac, AllocError> {
     }
 }
 
-/// A fraction, or `inf`.
+/// Reads a fraction, or `inf`.
 pub fn extended(word: &str) -> Result<Ext, AllocError> {
     match word {
         "inf" => Ok(Ext::Inf),
@@ -24,7 +24,7 @@ pub fn extended(word: &str) -> Result<Ext, AllocError> {
     }
 }
 
-/// The type of a letter: b is Bool, i is Int, u is UInt, and r is UReal.
+/// Returns the type of a letter: b is Bool, i is Int, u is UInt, and r is UReal.
 fn type_of(letter: u8) -> Ty {
     match letter {
         b'b' => Ty::Bool,
@@ -34,7 +34,7 @@ fn type_of(letter: u8) -> Ty {
     }
 }
 
-/// The types of the variables, a letter for each.
+/// Reads the types of the variables, a letter for each.
 pub fn types_of(alloc: Global, text: &str) -> Result<Vec<Ty>, AllocError> {
     let mut types = Vec::new(alloc);
     for letter in text.bytes() {
@@ -43,13 +43,13 @@ pub fn types_of(alloc: Global, text: &str) -> Result<Vec<Ty>, AllocError> {
     Ok(types)
 }
 
-/// The index of a row with its multiplier, as `2:3`.
+/// Reads the index of a row with its multiplier, such as `2:3`.
 fn multiple(word: &str) -> Result<(u32, u64), AllocError> {
     let (row, times) = cut(word, ':');
     Ok((index(row)?, count(times)?))
 }
 
-/// Indexes of rows with their multipliers, as `0:1 2:3`, with this mark between them.
+/// Reads indexes of rows with their multipliers, such as `0:1 2:3`, with `mark` between them.
 pub fn multipliers_of(
     alloc: Global,
     text: &str,
@@ -64,7 +64,7 @@ pub fn multipliers_of(
     Ok(multipliers)
 }
 
-/// Writes a fraction behind a text, as `fraction` reads it.
+/// Appends a fraction in the notation of `fraction`.
 pub fn write_fraction(x: &Frac, text: &mut String) -> Result<(), AllocError> {
     let num = x.num();
     let den = x.den();
@@ -75,7 +75,8 @@ pub fn write_fraction(x: &Frac, text: &mut String) -> Result<(), AllocError> {
     Ok(())
 }
 
-/// Writes indexes of rows with their multipliers behind a text, as `multipliers_of` reads them, each with a space behind it.
+/// Appends indexes of rows with their multipliers in the notation of `multipliers_of`, each
+/// followed by a space.
 pub fn write_multipliers(multipliers: &[(u32, u64)], text: &mut String) -> Result<(), AllocError> {
     for (row, times) in multipliers {
         write!(text, "{row}:{times} ")?;

@@ -1,5 +1,5 @@
-//! Rows, points and broken intervals as texts. `2x0 -1x1 3 <=0` is the row that twice the variable 0, less the variable 1, and 3 are at
-//! most 0; with `<0` it is strict.
+//! Rows, points and intervals without integers as texts. `2x0 -1x1 3 <=0` is the row that 2*x0 - x1
+//! + 3 is at most 0; with `<0` it is strict.
 
 use crate::numbers::write_fraction;
 use goal_answers::Broken;
@@ -8,7 +8,7 @@ use linear_rows::Row;
 use std::alloc::AllocError;
 use std::fmt::Write;
 
-/// What stands behind a row, or behind a linear value that is asked for.
+/// Returns the text after the terms of a row, or of a linear value that is compared with 0.
 pub fn sign(strict: bool) -> &'static str {
     if strict { " <0 " } else { " <=0 " }
 }
@@ -23,7 +23,7 @@ pub fn write_row(row: &Row, text: &mut String) -> Result<(), AllocError> {
     text.push_str(sign(row.strict))
 }
 
-/// Writes the rows, one behind the other.
+/// Writes rows, one after another.
 pub fn write_rows(rows: &[Row], text: &mut String) -> Result<(), AllocError> {
     for row in rows {
         write_row(row, text)?;
@@ -40,7 +40,7 @@ fn write_value(value: &Val, text: &mut String) -> Result<(), AllocError> {
     text.push_str(" ")
 }
 
-/// Writes a state, behind a word.
+/// Writes `word`, and then the state `point`.
 pub fn write_point(word: &str, point: &[Val], text: &mut String) -> Result<(), AllocError> {
     text.push_str(word)?;
     for value in point {
@@ -49,7 +49,8 @@ pub fn write_point(word: &str, point: &[Val], text: &mut String) -> Result<(), A
     Ok(())
 }
 
-/// Writes the ends of an interval, each with whether it is inside.
+/// Writes the ends of an interval. A bracket is an end that belongs to it, a parenthesis one that
+/// does not.
 fn write_interval(broken: &Broken, text: &mut String) -> Result<(), AllocError> {
     text.push_str(if broken.low_in { "[" } else { "(" })?;
     write_fraction(&broken.low, text)?;
@@ -58,7 +59,8 @@ fn write_interval(broken: &Broken, text: &mut String) -> Result<(), AllocError> 
     text.push_str(if broken.high_in { "]" } else { ")" })
 }
 
-/// Writes a variable, the ends between which it has no whole number, and the values chosen before.
+/// Writes a variable, the interval in which it has no integer, and the values that were chosen
+/// before.
 pub fn write_broken(broken: &Broken, text: &mut String) -> Result<(), AllocError> {
     let var = broken.var;
     write!(text, "broken x{var} ")?;
