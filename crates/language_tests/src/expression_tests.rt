@@ -1,4 +1,4 @@
-//! Expressions with the trees that they spell and their places, all by hand.
+//! Expressions with their trees and places, worked out by hand.
 
 use crate::kinds::{Kind, check_texts};
 use std::alloc::AllocError;
@@ -26,7 +26,7 @@ const PREFIXES: &str = "\
 !a && b gives {{!a} && b} 3..5
 a * -b gives {a * {-b}} 2..3";
 
-/// How operators group.
+/// Grouping of operators.
 const GROUPING: &str = "\
 a - b - c gives {{a - b} - c} 6..7
 a / b * c gives {{a / b} * c} 6..7
@@ -56,7 +56,7 @@ a <= b gives {a <= b} 2..4
 a > b gives {a > b} 2..3
 a >= b gives {a >= b} 2..4";
 
-/// Quantifiers, and expressions in brackets.
+/// Quantifiers, and expressions in parentheses.
 const NESTING: &str = "\
 sup x: UInt. a + b gives {sup x: UInt. {a + b}} 0..18
 inf y: Bool. sup x: Int. y gives {inf y: Bool. {sup x: Int. y}} 0..26

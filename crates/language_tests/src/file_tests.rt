@@ -1,10 +1,10 @@
-//! Texts of files with the procedures that they spell, all by hand.
+//! Texts of files with the procedures that they spell, worked out by hand.
 
 use crate::kinds::{Kind, check_texts};
 use std::alloc::AllocError;
 
-/// Procedures with the expressions of their clauses, how many statements their bodies have, and the places; and what the first
-/// statement is.
+/// Procedures with the expressions of their clauses, the number of statements of their bodies, and
+/// the places; then the first statement.
 const FILES: &str = "\
 proc f() -> () gives proc f() -> () pre post 0..14;
  gives
@@ -17,15 +17,15 @@ proc wp(ert: Real) -> () gives proc wp(ert: Real 8..17, ) -> () pre post 0..24;
 proc f() -> () { f() ; ; x, y = f(a, b) var z: Int var w: Bool = true; validate } coproc g() -> () gives proc f() -> () pre post {5} 0..81; coproc g() -> () pre post 82..98; assign 17..20;
 coproc f() -> () { if a { x = 1 } else if b { x = 2 } else { x = 3 } if \\cap { } else { tick 1 } @invariant(a) @ranking(1, b) while c { x = flip(1/2); y = choose { 1/2: a, 1/2: b } } havoc x, y coassume a } gives coproc f() -> () pre post {5} 0..206; if 2 1 19..68; assign 26..31;";
 
-/// A statement ends with its last token and not with the semicolon behind it.
+/// A statement ends with its last token. The semicolon after it does not belong to it.
 const ENDS: &str =
     "proc f() -> () { x = 1 ; } gives proc f() -> () pre post {1} 0..26; assign 17..22;";
 
-/// An else belongs to the if whose block it follows.
+/// An `else` belongs to the `if` whose block it follows.
 const ELSE: &str =
     "proc f() -> () { if a { if b { } else { x = 1 } } } gives proc f() -> () pre post {1} 0..51; if 1 0 17..49; if 1 1 24..47;";
 
-/// A branch in a loop.
+/// An `if` in a loop.
 const LOOP: &str =
     "@ert coproc p(a: Bool) -> () { @invariant(1) while true { if a { } else { x = flip(1) } } } gives @ert coproc p(a: Bool 14..21, ) -> () pre post {1} 0..91; while 1 1 31..89; if 1 1 58..87;";
 

@@ -60,8 +60,9 @@ fn write_procedure(found: &Proc, text: &mut String) -> Result<(), AllocError> {
     write!(text, " {span}; ")
 }
 
-/// Writes what a statement is, and its place: an assignment, a loop with how many rules it has and how many statements, or an if with
-/// how many guards and how many statements in its else.
+/// Writes the kind of a statement and its place: an assignment, a loop with the numbers of its
+/// rules and of its statements, or an `if` with the numbers of its guards and of the statements of
+/// its `else`.
 fn write_statement(found: &Stmt, text: &mut String) -> Result<(), AllocError> {
     match found {
         Stmt::Assign(_, _, span) => write!(text, "assign {span}; "),
@@ -79,7 +80,7 @@ fn write_statement(found: &Stmt, text: &mut String) -> Result<(), AllocError> {
     }
 }
 
-/// The first statement in a loop, or behind the first guard of an if.
+/// Returns the first statement of a loop, or of the first arm of an `if`.
 fn inner(found: &Stmt) -> Option<&Stmt> {
     match found {
         Stmt::While(_, _, body, _) => body.first(),
@@ -88,12 +89,12 @@ fn inner(found: &Stmt) -> Option<&Stmt> {
     }
 }
 
-/// The first statement of the first body.
+/// Returns the first statement of the first body.
 fn first(file: &File) -> Option<&Stmt> {
     file.procs.first()?.body.as_ref()?.first()
 }
 
-/// Writes what the first statement of the first body is, and the first one in that.
+/// Writes the first statement of the first body, and the first statement in it.
 fn write_first(file: &File, text: &mut String) -> Result<(), AllocError> {
     if let Some(outer) = first(file) {
         write_statement(outer, text)?;
@@ -104,8 +105,8 @@ fn write_first(file: &File, text: &mut String) -> Result<(), AllocError> {
     Ok(())
 }
 
-/// Writes each procedure with the expressions of its clauses, how many statements the body has, and the places; and then what the
-/// first statement is.
+/// Writes each procedure with the expressions of its clauses, the number of statements of its body,
+/// and the places; then the first statement.
 pub fn write_file(file: &File, text: &mut String) -> Result<(), AllocError> {
     for found in &file.procs {
         write_procedure(found, text)?;

@@ -1,4 +1,4 @@
-//! What lines ask of a text.
+//! Questions of lines about a text.
 
 use crate::file_texts::write_file;
 use crate::token_texts::write_lexed;
@@ -9,20 +9,20 @@ use std::alloc::{AllocError, Global};
 use std::process::Abort;
 use test_lines::{LineKind, differences};
 
-/// What a line asks.
+/// The question of a line.
 #[derive(Clone, Copy)]
 pub enum Kind {
-    /// The tokens of the text, or its fault.
+    /// The tokens of the text, or its error.
     Tokens,
     /// The tree of an expression, and its place in the text.
     Tree,
-    /// The procedures of a file, and what its first statement is.
+    /// The procedures of a file, and its first statement.
     File,
-    /// The same of a copy of the file.
+    /// The procedures of a copy of a file, and its first statement.
     Copy,
 }
 
-/// The tokens of a text; want of memory where it has none, or is too long for a test.
+/// Returns the tokens of a text of at most 1,000 bytes.
 fn tokens_of(alloc: Global, text: &str) -> Result<Vec<Token>, AllocError> {
     if text.len() > 1000 {
         return Err(AllocError);
@@ -33,7 +33,7 @@ fn tokens_of(alloc: Global, text: &str) -> Result<Vec<Token>, AllocError> {
     }
 }
 
-/// The file of a text; want of memory where it is none.
+/// Returns the file that a text spells, in at most 1,000 tokens.
 fn file_of(alloc: Global, text: &str) -> Result<File, AllocError> {
     let tokens = tokens_of(alloc, text)?;
     if tokens.len() > 1000 {
@@ -45,7 +45,7 @@ fn file_of(alloc: Global, text: &str) -> Result<File, AllocError> {
     }
 }
 
-/// Writes the tree of an expression behind a head.
+/// Writes the tree of an expression, which is read after a head.
 fn write_parsed(alloc: Global, asked: &str, text: &mut String) -> Result<(), AllocError> {
     let mut whole = String::from_str(alloc, HEAD)?;
     whole.push_str(asked)?;

@@ -1,5 +1,7 @@
-//! Tests of the language, over the public calls that no command reaches: tokens, trees, places and copies. Each line of a text is a
-//! test.
+//! Tests of the language through the public functions that no command reaches: tokens, trees,
+//! places and copies. Each line of a text is a test.
+//!
+//! `AllocError` means that memory ran out, or that a line of a test is malformed.
 #![tactic(auto)]
 
 #[cfg(test)]

@@ -1,4 +1,4 @@
-//! Bytes with their tokens, written by hand.
+//! Bytes with their tokens, worked out by hand.
 
 use crate::kinds::{Kind, check_texts};
 use crate::token_texts::write_lexed;
@@ -8,7 +8,7 @@ use std::alloc::{AllocError, Global};
 use std::fmt::Write;
 use std::process::Abort;
 
-/// Texts with their tokens or the fault.
+/// Texts with their tokens, or with the error.
 const TEXTS: &str = "\
 a\rb gives word a 0..1; word b 2..3;
  gives
@@ -57,7 +57,7 @@ a<= =b gives word a 0..1; mark AtMost 1..3; mark Assign 4..5; word b 5..6;
 # /* 170141183460469231731687303715884105728 gives fault 1 at the bytes 0..1
 proc procs _ _1 Sup gives key Proc 0..4; word procs 5..10; word _ 11..12; word _1 13..15; word Sup 16..19;";
 
-/// Each key word.
+/// The keywords.
 const KEYS: &str = "\
 proc gives key Proc 0..4;
 coproc gives key CoProc 0..6;
@@ -95,7 +95,7 @@ inf gives key Inf 0..3;
 \\cup gives key Cup 0..4;
 \\infty gives key Infty 0..6;";
 
-/// Each mark.
+/// The symbols.
 const MARKS: &str = "\
 ( gives mark ParenLeft 0..1;
 ) gives mark ParenRight 0..1;
@@ -133,7 +133,7 @@ fn reads_texts(rt: HostRuntime) -> Result<(), AllocError> {
     check_texts(&rt, Kind::Tokens, &[TEXTS, KEYS, MARKS])
 }
 
-/// Bytes with line feeds, or such that are no text, and their tokens.
+/// Bytes with line feeds, or that are not UTF-8, with their tokens.
 const ROWS: [(&[u8], &str); 4] = [
     (b" \t\r\n", ""),
     (b"a//\xC3\xA4\xFF\0\nb", "word a 0..1; word b 8..9; "),
@@ -156,7 +156,7 @@ fn reads_rows(rt: HostRuntime) -> Result<(), AllocError> {
     check_rows(&rt, &ROWS)
 }
 
-/// What one byte alone is.
+/// Returns the kind of the token that one byte alone is.
 fn alone(byte: u8) -> &'static str {
     match byte {
         b' ' | b'\t' | b'\r' | b'\n' => "",
@@ -210,7 +210,7 @@ fn shows_places(rt: HostRuntime) -> Result<(), AllocError> {
     Ok(())
 }
 
-/// How many tokens so many equal bytes are; want of memory where they are none.
+/// Returns the number of tokens of 2^20 equal bytes.
 fn count(alloc: Global, byte: u8) -> Result<usize, AllocError> {
     let bytes = vec![in alloc; byte; 1 << 20]?;
     match lex(alloc, &bytes) {

@@ -31,7 +31,7 @@ fn write_tokens(tokens: &[Token], text: &mut String) -> Result<(), AllocError> {
     Ok(())
 }
 
-/// Writes the tokens of the bytes, each with its place, or the fault.
+/// Writes the tokens of the bytes, each with its place, or the error.
 pub fn write_lexed(alloc: Global, bytes: &[u8], text: &mut String) -> Result<(), AllocError> {
     if bytes.len() > 1000 {
         return Err(AllocError);

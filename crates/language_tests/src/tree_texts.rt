@@ -34,7 +34,7 @@ fn prefix(op: UnaryOp) -> &'static str {
     }
 }
 
-/// The text of a name.
+/// Returns the text of a name.
 pub fn text_of(name: &Name) -> &str {
     std::str::from_utf8(name.as_bytes()).unwrap_or("?")
 }
@@ -55,7 +55,7 @@ fn write_binder(up: bool, name: &Name, ty: TypeName, text: &mut String) -> Resul
     write!(text, "{{{key} {name}: {ty:?}. ")
 }
 
-/// Writes what stands before the parts of an expression, or all of one without parts.
+/// Writes the text before the parts of an expression, or the whole text if it has no parts.
 fn write_front(expr: &Expr, text: &mut String) -> Result<(), AllocError> {
     match expr {
         Expr::Number(lit, _) => write_number(*lit, text),
@@ -72,7 +72,7 @@ fn write_front(expr: &Expr, text: &mut String) -> Result<(), AllocError> {
     }
 }
 
-/// What stands behind the parts of an expression.
+/// Returns the text after the parts of an expression.
 fn end(expr: &Expr) -> &'static str {
     match expr {
         Expr::Group(_, _) | Expr::Embed(_, _) | Expr::Choice(_, _, _, _) => ")",
@@ -124,10 +124,10 @@ fn place(expr: &Expr) -> Span {
     }
 }
 
-/// What stands before each expression.
+/// The text before each expression.
 pub const HEAD: &str = "proc f() -> () pre ";
 
-/// Writes the tree, and its place from where the expression begins.
+/// Writes the tree, and its place counted from the start of the expression.
 fn write_expression(expr: &Expr, text: &mut String) -> Result<(), AllocError> {
     write_tree(expr, text)?;
     let place = place(expr);
@@ -136,7 +136,7 @@ fn write_expression(expr: &Expr, text: &mut String) -> Result<(), AllocError> {
     write!(text, " {from}..{to}")
 }
 
-/// Writes the expression of the first clause behind the head, and its place.
+/// Writes the expression of the first clause, which is after the head, and its place.
 pub fn write_clause(file: &File, text: &mut String) -> Result<(), AllocError> {
     match file.procs.first() {
         Some(procedure) => match procedure.pres.first() {
