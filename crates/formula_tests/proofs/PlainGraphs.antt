@@ -25,7 +25,7 @@ plain_within ns i p = tree_within ns i (Tree.formula p.form) p.stands.tree
 pub plain_longer : (old new : List Node) (i : ℕ) → StandsPlain old i → Begins old new → StandsPlain new i
 plain_longer old new i p b = record { form = p.form; stands = stands_longer old new i (Tree.formula p.form) b p.stands; plain = p.plain }
 
--- No other formula stands there.
+-- The node has no other formula.
 pub no_binder : (ns : List Node) (i : ℕ) (f : Form) → StandsPlain ns i → Stands ns i (Tree.formula f) → has_binder f ≡ true → {A : Type 0} → A
 no_binder ns i f p s h = absurd (let e : has_binder f ≡ false = ap has_binder (same_formula ns i f p.form s p.stands) ∙ p.plain in cc)
   where
@@ -35,7 +35,7 @@ no_binder ns i f p s h = absurd (let e : has_binder f ≡ false = ap has_binder 
 pub plain_put : (old new : List Node) (i r x : ℕ) (t : Term) → IsPlain t → StandsPlain old i → ((f : Form) → Stands old i (Tree.formula f) → Stands new r (Tree.formula (subst x t f))) → StandsPlain new r
 plain_put old new i r x t h p s = record { form = subst x t p.form; stands = s p.form p.stands; plain = subst_binders x t p.form h ∙ p.plain }
 
--- ---- Nodes over such formulas
+-- ---- Nodes over formulas without binders
 
 scaled : (ns : List Node) (w : Rational) (i : ℕ) (p : StandsPlain ns i) → IsNodeOf ns (Node.Scale w i) (Tree.formula (Form.scale w p.form))
 scaled ns w i p = scale_node ns w i p.form p.stands

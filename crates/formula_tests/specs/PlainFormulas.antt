@@ -1,4 +1,4 @@
--- Formulas without binders in a graph, of which a substitution asks nothing more.
+-- Formulas without binders in a graph, for which a substitution requires nothing more.
 use Rattle.std.specs.Prelude.{◌≡◌, ℕ, false, List}
 use Rattle.heylo_formula.specs.Formula.{Form}
 use Rattle.heylo_formula.specs.Binders.{has_binder}
@@ -6,7 +6,7 @@ use Rattle.heylo_graph.specs.Trees.{Tree}
 use Rattle.heylo_graph.specs.Nodes.{Stands}
 use Rattle.heylo_graph.specs.declared.nodes.Node.{Node}
 
--- A formula without binders stands at the number.
+-- The node with the number `i` is a formula without binders.
 pub record StandsPlain (ns : List Node) (i : ℕ) : Type 0 where
   pub form : Form
   pub stands : Stands ns i (Tree.formula form)

@@ -7,7 +7,7 @@ use std::fmt::Write;
 use test_lines::{cut, index, write_numbers};
 use test_texts::form_of;
 
-/// Writes the two variables of a sum behind the number and the name of its binder.
+/// Writes the number and the name of a binder, and the two variables of the sum below it.
 fn write_sum(bound: u32, name: u32, body: &Form, text: &mut String) -> Result<(), AllocError> {
     match body {
         Form::Sum(a, b) => match (&**a, &**b) {
@@ -41,7 +41,7 @@ fn write_substituted(
     write_binder(form, text)
 }
 
-/// Writes the form with another one in place of a variable, and the form itself.
+/// Writes the form with another one for a variable, and then the form itself.
 pub fn write_substitution(
     alloc: Global,
     form: &Form,
@@ -69,7 +69,7 @@ fn write_renamed(
     write_binder(&form.rename(alloc, from, to)?, text)
 }
 
-/// Writes the form with another variable in place of one.
+/// Writes the form with another variable for a variable.
 pub fn write_renaming(
     alloc: Global,
     form: &Form,
@@ -90,7 +90,8 @@ fn write_sizes(nodes: u64, depth: u64, text: &mut String) -> Result<(), AllocErr
     write!(text, "{nodes} {depth}")
 }
 
-/// Writes whether a variable is free in the form, whether it occurs, how many nodes there are, and how deep the form is.
+/// Writes whether a variable is free in the form and whether it occurs, then the number of nodes
+/// and the depth of the form.
 pub fn write_size(form: &Form, variable: &str, text: &mut String) -> Result<(), AllocError> {
     let variable = index(variable)?;
     text.push_str(truth(form.free(variable)))?;
@@ -98,13 +99,14 @@ pub fn write_size(form: &Form, variable: &str, text: &mut String) -> Result<(), 
     write_sizes(form.nodes(), form.depth(), text)
 }
 
-/// Writes how many nodes a condition has, and how deep it is.
+/// Writes the number of nodes and the depth of a condition.
 pub fn write_condition_size(condition: &Cond, text: &mut String) -> Result<(), AllocError> {
     write_sizes(condition.nodes(), condition.depth(), text)
 }
 
-/// The binder's number, the sum, the variable replaced and the form put in; then the number, the name and the sum,
-/// and those of the form as it was.
+/// The question has the binder's number, the sum, the variable to replace and the form for it. The
+/// result has the number, the name and the sum after the substitution, then those of the original
+/// form.
 const SUBSTITUTIONS: &str = "\
 v0 v1 + bind:1 ; 0 ; v1 gives 1048576 1 1 1048576 of 1 1 0 1
 v0 v1 + bind:1 ; 0 ; v2 gives 1 1 2 1 of 1 1 0 1
@@ -116,7 +118,7 @@ const RENAMINGS: &str = "\
 v0 v1 + bind:1 ; 0 ; 7 gives 1 1 7 1
 v0 v1 + bind:1 ; 1 ; 7 gives 1 1 0 1";
 
-/// Variable 1 is bound, and variable 2 doesn't occur.
+/// The variable 1 is bound, and the variable 2 does not occur.
 const SIZES: &str = "\
 v0 v1 + bind:1 ; 0 gives true true 4 3
 v0 v1 + bind:1 ; 1 gives false true 4 3

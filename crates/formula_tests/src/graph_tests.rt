@@ -1,4 +1,5 @@
-//! Formulas in a graph, worked out by hand: what is put again stands already, and what shares its parts stays small.
+//! Formulas in a graph, worked out by hand: adding a formula again adds no node, and a tree with
+//! shared parts stays small.
 
 ghost use Rattle.std.specs.Prelude.{◌<◌, length, IfOk, IfSome, OnOk};
 ghost use Rattle.heylo_graph.specs.Nodes.{Begins};
@@ -13,12 +14,13 @@ use std::fmt::Write;
 use test_lines::count;
 use test_texts::fraction;
 
-/// Writes the sizes of a node's tree and the length of the list.
+/// Writes the number of nodes and the depth of a node's tree, and the length of the list.
 fn write_sizes(nodes: u64, depth: u64, len: usize, text: &mut String) -> Result<(), AllocError> {
     write!(text, "{nodes} {depth} {len}")
 }
 
-/// The number that a formula has, which is put twice and read out in between; none where it has two.
+/// Adds a form, reads it from the graph, and adds it again. Returns its number, or `None` if there
+/// are two.
 fn put_again(graph: &mut Graph, form: &Form) -> Result<Option<NodeId>, AllocError>
     ensures { IfOk result (λ o. IfSome o (λ i. i < length graph.new)) }
 {
@@ -33,7 +35,7 @@ fn put_again(graph: &mut Graph, form: &Form) -> Result<Option<NodeId>, AllocErro
     })
 }
 
-/// Writes the sizes of a formula that is put into an empty list, and put again.
+/// Writes the sizes of a form that is added to an empty list, and added again.
 pub fn write_put(alloc: Global, form: &Form, text: &mut String) -> Result<(), AllocError> {
     let mut graph = Graph::new(alloc)?;
     match put_again(&mut graph, form)? {
@@ -42,7 +44,7 @@ pub fn write_put(alloc: Global, form: &Form, text: &mut String) -> Result<(), Al
     }
 }
 
-/// 1/2 times the formula where the variable 0 has the truth value.
+/// Returns 1/2 times the formula with `truth` for the variable 0.
 fn half_of(graph: &mut Graph, id: NodeId, half: Frac, truth: bool) -> Result<NodeId, AllocError>
     requires { StandsPlain graph.old id }
     ensures begins { OnOk result (Begins graph.old graph.new) }
@@ -52,7 +54,7 @@ fn half_of(graph: &mut Graph, id: NodeId, half: Frac, truth: bool) -> Result<Nod
     graph.join(Node::Scale(half, part))
 }
 
-/// The formula before which a fair coin is thrown for the variable 0.
+/// Returns the formula after a fair flip of the variable 0.
 fn thrown(graph: &mut Graph, id: NodeId, half: Frac) -> Result<NodeId, AllocError>
     requires { StandsPlain graph.old id }
     ensures { IfOk result (λ i. StandsPlain graph.new i) }
@@ -62,7 +64,7 @@ fn thrown(graph: &mut Graph, id: NodeId, half: Frac) -> Result<NodeId, AllocErro
     graph.join(Node::Sum(heads, tails))
 }
 
-/// The formula before which so many fair coins are thrown.
+/// Returns the formula after `times` fair flips.
 fn thrown_often(
     graph: &mut Graph,
     start: NodeId,
@@ -79,7 +81,7 @@ fn thrown_often(
     Ok(id)
 }
 
-/// Whether the variable 0 holds, as a formula.
+/// Returns the formula `[b0]`, which is 1 if the variable 0 is true, and 0 otherwise.
 fn holds(graph: &mut Graph) -> Result<NodeId, AllocError>
     ensures { IfOk result (λ i. StandsPlain graph.new i) }
 {
@@ -87,7 +89,7 @@ fn holds(graph: &mut Graph) -> Result<NodeId, AllocError>
     graph.join(Node::Iverson(test))
 }
 
-/// Writes the sizes of whether the variable 0 holds, after so many fair coins are thrown for it.
+/// Writes the sizes of the formula `[b0]` after `times` fair flips of the variable 0.
 pub fn write_coins(alloc: Global, times: &str, text: &mut String) -> Result<(), AllocError> {
     let mut graph = Graph::new(alloc)?;
     let start = holds(&mut graph)?;
@@ -95,15 +97,16 @@ pub fn write_coins(alloc: Global, times: &str, text: &mut String) -> Result<(), 
     write_sizes(graph.nodes(id), graph.depth(id), graph.len(), text)
 }
 
-/// The nodes and the depth of the tree, and the length of the list.
+/// The number of nodes and the depth of the tree, and the length of the list.
 const PUT: &str = "\
 v0 v0 + gives 3 2 2
 v0 v0 + v0 v0 + min gives 7 3 3
 b0 b0 [] b0 [] select gives 6 3 3
 v0 v1 + bind:1 v0 v1 + bind:1 + gives 9 4 5";
 
-/// Each coin makes 2*n + 3 nodes of n, so 60 make 5*2^60 - 3 of two. The list has two at first, the first coin puts seven more, and each
-/// further one two, since the variable is free no longer. From 2^63 nodes on the count stands still.
+/// Each flip makes 2*n + 3 nodes of n, so that 60 flips make 5*2^60 - 3 of 2. The list has 2 nodes
+/// at first; the first flip adds 7 and each further one 2, as the variable is then not free. From
+/// 2^63 nodes on, the number stays the same.
 const COINS: &str = "\
 0 gives 2 2 2
 1 gives 7 4 9

@@ -1,4 +1,4 @@
-//! What lines ask of numbers and formulas.
+//! Questions of lines about numbers and formulas.
 
 use crate::formula_tests::{write_condition_size, write_renaming, write_size, write_substitution};
 use crate::graph_tests::{write_coins, write_put};
@@ -11,40 +11,41 @@ use std::process::Abort;
 use test_lines::{LineKind, cut, differences};
 use test_texts::{form_of, goal_of, test_of};
 
-/// What a line asks.
+/// The question of a line.
 #[derive(Clone, Copy)]
 pub enum Kind {
-    /// `operation`: what a function of numbers gives.
+    /// `operation`: the result of an operation on numbers.
     Number,
     Form(OfForm),
     Condition(OfCondition),
     /// `goal`: whether it holds.
     Goal,
-    /// `number`: the sizes in a graph of a formula before which so many coins are thrown.
+    /// `number`: the sizes in a graph of a formula after so many flips.
     Coins,
 }
 
-/// What a line asks of a form.
+/// The question of a line about a form.
 #[derive(Clone, Copy)]
 pub enum OfForm {
     /// `form ; state`: its value.
     Value,
-    /// `form ; variable ; form`: the first form, with the second in place of the variable.
+    /// `form ; variable ; form`: the first form, with the second one for the variable.
     Substitution,
-    /// `form ; variable ; variable`: the form with the second variable in place of the first.
+    /// `form ; variable ; variable`: the form, with the second variable for the first one.
     Renaming,
-    /// `form ; variable`: whether it is free and whether it occurs, and how many nodes the form has and how deep it is.
+    /// `form ; variable`: whether it is free and whether it occurs, then the number of nodes and
+    /// the depth of the form.
     Size,
-    /// `form`: its sizes in a graph in which it is put twice.
+    /// `form`: its sizes in a graph to which it is added twice.
     Put,
 }
 
-/// What a line asks of a condition, which is all of it.
+/// The question of a line about a condition, which is the whole line.
 #[derive(Clone, Copy)]
 pub enum OfCondition {
     /// Whether it holds.
     Truth,
-    /// How many nodes it has and how deep it is.
+    /// The number of its nodes, and its depth.
     Size,
 }
 

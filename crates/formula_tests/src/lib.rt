@@ -1,5 +1,7 @@
-//! Tests of numbers, of formulas, of their values and of their graphs, over the public calls of the crates that make them. Each line of
-//! a text is a test.
+//! Tests of numbers, formulas, their values and their graphs, through the public functions of the
+//! crates that make them. Each line of a text is a test.
+//!
+//! `AllocError` means that memory ran out, or that a line of a test is malformed.
 #![tactic(auto)]
 
 #[cfg(test)]

@@ -1,5 +1,5 @@
-//! Fractions and extended numbers. 2^127 - 1 is the last number that fits, on both sides; -2^127 is an i128, and too large all the
-//! same.
+//! Fractions and extended numbers. 2^127 - 1 is the largest number that fits, of either sign;
+//! -2^127 is an i128 and does not fit.
 
 use crate::kinds::{Kind, check_texts};
 use heyvl_num::{Ext, Frac, gcd};
@@ -9,7 +9,7 @@ use std::fmt::Write;
 use test_lines::{cut, unsigned, whole};
 use test_texts::{extended, fraction, write_fraction};
 
-/// Writes a number, or that there is none.
+/// Writes a number, or `none`.
 fn write_found(found: Option<Frac>, text: &mut String) -> Result<(), AllocError> {
     match &found {
         Some(x) => write_fraction(x, text),
@@ -39,7 +39,7 @@ fn write_divisor(first: &str, second: &str, text: &mut String) -> Result<(), All
     write!(text, "{found}")
 }
 
-/// Writes what an operation of two fractions gives.
+/// Writes the result of an operation on two fractions.
 fn write_of_fractions(
     by: &str,
     first: &str,
@@ -63,7 +63,7 @@ fn write_rounded(by: &str, word: &str, text: &mut String) -> Result<(), AllocErr
     write!(text, "{found}")
 }
 
-/// Writes what an operation of two extended numbers gives.
+/// Writes the result of an operation on two extended numbers.
 fn write_of_extended(
     by: &str,
     first: &str,
@@ -79,7 +79,8 @@ fn write_of_extended(
     }
 }
 
-/// Writes what an operation gives, as `add 1/2 1/3`; `+`, `*` and `?` are sums, products and comparisons of extended numbers.
+/// Writes the result of an operation such as `add 1/2 1/3`; `+`, `*` and `?` are sums, products and
+/// comparisons of extended numbers.
 pub fn write_operation(asked: &str, text: &mut String) -> Result<(), AllocError> {
     let (by, rest) = cut(asked, ' ');
     let (first, second) = cut(rest, ' ');
@@ -92,7 +93,7 @@ pub fn write_operation(asked: &str, text: &mut String) -> Result<(), AllocError>
     }
 }
 
-/// Operations that are exact, or give nothing.
+/// Operations that are exact, or have no result.
 const EXACT: &str = "\
 new 6 4 gives 3/2
 new 6 -4 gives -3/2
@@ -146,7 +147,7 @@ compare 1/170141183460469231731687303715884105727 1/1 gives less
 compare 170141183460469231731687303715884105727/2 2/170141183460469231731687303715884105727 gives none
 compare -18446744073709551616/1 1/9223372036854775808 gives none";
 
-/// Rounding, greatest divisors and extended numbers.
+/// Rounding, greatest common divisors and extended numbers.
 const OTHERS: &str = "\
 floor 7/2 gives 3
 ceil 7/2 gives 4

@@ -42,7 +42,7 @@ pub fn write_value(
     write_at(&value_at(form, &state), text)
 }
 
-/// The word for whether something holds.
+/// Returns the text of whether something holds.
 pub fn held(held: Held) -> &'static str {
     match held {
         Held::No => "no",
@@ -51,7 +51,8 @@ pub fn held(held: Held) -> &'static str {
     }
 }
 
-/// Operators of two values. 1/2^63 and 1/2^64 can be compared, and have no difference in 127 bits.
+/// Operators of two values. 1/2^63 and 1/2^64 can be compared, and their difference does not fit
+/// into 127 bits.
 const TWO: &str = "\
 3 5 + gives 8
 3 5 * gives 15
@@ -183,7 +184,7 @@ b0 embed ; true 7/2 gives inf
 2/3 1/2 <= [] gives 0
 2/3 1/2 = [] gives 0";
 
-/// Conditions skip what decides nothing.
+/// Conditions skip a part that does not matter.
 const CONDITIONS: &str = "\
 false false and gives no
 false false or gives no
