@@ -1,4 +1,4 @@
--- Acts over Boolean variables are well typed, and what stands in a graph is what vp_in asks for.
+-- Acts over Boolean variables are well typed, and their graphs satisfy the requirements of `vp_in`.
 use Rattle.std.proofs.Common.{◌≡◌, ℕ, ◌<◌, refl, sym, ap, ap₂, subst, ◌∙◌, arith, Bool, true, false, if◌then◌else◌, ◌==◌, Box, List, [], ◌∷◌, ◌++◌}
 use Rattle.std.proofs.lemmas.Int.{ints}
 use Rattle.std.specs.Prelude.{Some, pos, Vec, Result, Ok, Err, IfOk}
@@ -40,7 +40,7 @@ pub calm_last : (acts : List A.Act) (a : A.Act) → AreCalm (acts_of acts) → I
 calm_last [] a h k = record { fit = (k.fit, tt); calm = (k.calm, tt) }
 calm_last (b ∷ acts) a h k = let i = calm_last acts a (record { fit = h.fit.1; calm = h.calm.1 }) k in record { fit = (h.fit.0, i.fit); calm = (h.calm.0, i.calm) }
 
--- Two parts of the same weight, true and false.
+-- A draw of true and false with the same weight.
 pub draw_calm : (w : Rational) (ps : Vec (Rational × T.Term) Global) (span : Span) → zeroʳ ≤ʳ w → ps.items ≡ (w, T.TheVariants.Truth (C.Const true)) ∷ (w, T.TheVariants.Truth (C.Const false)) ∷ [] → IsCalm (act_of (A.Draw 0 ps span))
 draw_calm w ps span h e = subst IsCalm (sym (draw_act 0 ps span ∙ ap (λ l. Act.draw 0 (parts_of l) span) e)) (record { fit = ((h, (refl, ap (is_well_typed bools) (constant_cond true))), ((h, (refl, ap (is_well_typed bools) (constant_cond false))), tt)); calm = tt })
 
@@ -53,7 +53,7 @@ validate_calm co span = subst IsCalm (sym (validate_act co span)) (record { fit 
 pub any_behind : (a : A.Act) (span : Span) (acts : List A.Act) → acts ≡ a ∷ A.Any 1 true Ty.Bool span ∷ [] → IsCalm (act_of a) → ActsFit bools (acts_of acts)
 any_behind a span acts e h = subst (λ l. ActsFit bools (acts_of l)) (sym e) (h.fit, (subst (ActFits bools) (sym (any_act 1 true Ty.Bool span)) refl, tt))
 
--- ---- What stands
+-- ---- Formulas of nodes
 
 formula_is : (f g : Form) → Some (Tree.formula f) ≡ Some (Tree.formula g) → f ≡ g
 formula_is f g e = cc
@@ -64,7 +64,7 @@ follows acts ns i h s = record { form = s.form; stands = s.stands; fit = record 
 pub no_binder : (acts : Acts) (ns : List Node) (i : ℕ) → HaveNoAny acts → StandsPlain ns i → MakeNoBinder acts ns i
 no_binder acts ns i h s = record { calm = h; post = λ k t. subst (λ f. has_binder f ≡ false) (formula_is s.form k (sym s.stands.tree ∙ t.tree)) s.plain }
 
--- Whether a condition holds, as a formula.
+-- A condition as the number 1 or 0.
 pub ok_iverson : {E : Type 0} (old new : List Node) (i : ℕ) (g : Cond) (o : Result ℕ E) → is_well_typed bools g ≡ true → has_binder_in g ≡ false → Stands old i (Tree.condition g) → IfOk o (λ r. (t : Tree) → assembled (tree_at old) (Node.Iverson i) ≡ Some t → Stands new r t) → IfOk o (λ r. StandsPlain new r)
 ok_iverson old new i g (Ok r) w p s h = record { form = Form.iverson g; stands = h (Tree.formula (Form.iverson g)) (iverson_node old i g s).gives; formula = ap (λ b. is_unsigned (only_if b (Some NumberType.uint))) w; plain = p }
 ok_iverson old new i g (Err e) w p s h = tt
@@ -90,12 +90,12 @@ both_finite false false = refl
 number_kind : (w : Rational) → zeroʳ ≤ʳ w → constant_type (finite w) ≡ Some (if w.den == 1 then NumberType.uint else NumberType.ureal)
 number_kind w h = ap (λ b. if b then Some (if w.den == 1 then NumberType.uint else NumberType.ureal) else only_if (w.den == 1) (Some NumberType.int)) h.holds
 
--- A choice between two numbers is a probability.
+-- The weight that a condition selects from two numbers is a probability.
 pub choice_is : (x : ℕ) (v w : Rational) → zeroʳ ≤ʳ v → zeroʳ ≤ʳ w → IsProbability bools (Form.select (Cond.flag x) (Form.number (finite v)) (Form.number (finite w)))
 choice_is x v w h k =
     let e = ap₂ joined (number_kind v h) (number_kind w k) in
     ((subst (λ t. is_unsigned t ≡ true) (sym e) (both_unsigned (v.den == 1) (w.den == 1)), refl), (subst (λ t. is_finite_type t ≡ true) (sym e) (both_finite (v.den == 1) (w.den == 1)), refl))
 
--- So is its form in memory.
+-- The weight that the program holds is a probability.
 pub weight_is : (t : Box C.Cond Global) (l r : Box F.Form Global) (v w : Rational) → t.value ≡ C.Var 0 → l.value ≡ F.Const (Ext.Fin v) → r.value ≡ F.Const (Ext.Fin w) → zeroʳ ≤ʳ v → zeroʳ ≤ʳ w → IsProbability bools (form_of (F.Select t l r))
 weight_is t l r v w d e i h k = subst (IsProbability bools) (sym (select_form t l r ∙ ap₂ (λ g (q : Form × Form). Form.select g q.0 q.1) (ap cond_of d ∙ flag_cond 0) (ap₂ (λ a b. (a, b)) (ap form_of e ∙ number_form (Ext.Fin v)) (ap form_of i ∙ number_form (Ext.Fin w))))) (choice_is 0 v w h k)

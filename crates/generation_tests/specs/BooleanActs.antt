@@ -1,4 +1,4 @@
--- Acts and formulas over Boolean variables alone, of which forms are made in a graph.
+-- Acts and formulas over Boolean variables, whose forms are made in a graph.
 use Rattle.std.specs.Prelude.{◌≡◌, ℕ, false, List}
 use Rattle.heylo_formula.specs.Formula.{Form}
 use Rattle.heylo_formula.specs.Binders.{has_binder}
@@ -15,17 +15,17 @@ use Rattle.vp_generator.specs.GraphAnswers.{HasNoAny, HaveNoAny}
 abbrev pub bools : Types
 bools x = Ty.Bool
 
--- The act is well typed and gives no variable any value.
+-- The act is well typed and no havoc.
 pub record IsCalm (a : Act) : Type 0 where
   pub fit : ActFits bools a
   pub calm : HasNoAny a
 
--- So are acts.
+-- The acts are well typed and have no havoc.
 pub record AreCalm (acts : Acts) : Type 0 where
   pub fit : ActsFit bools acts
   pub calm : HaveNoAny acts
 
--- A formula without binders stands at the number.
+-- The node with the number `i` is a formula without binders.
 pub record StandsPlain (ns : List Node) (i : ℕ) : Type 0 where
   pub form : Form
   pub stands : Stands ns i (Tree.formula form)

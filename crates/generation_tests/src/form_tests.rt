@@ -1,4 +1,5 @@
-//! The forms of acts in a graph, worked out by hand: how large they are, or which limit they pass, and how long the list is then.
+//! The forms of acts in a graph, worked out by hand: their sizes, or the limit that they pass, and
+//! the length of the list.
 
 ghost use Rattle.std.specs.Prelude.{◌<◌, ◌≤◌, ◌^◌, length, IfOk};
 ghost use Rattle.heyvl_acts.specs.PlainActs.{acts_of};
@@ -13,7 +14,7 @@ use std::fmt::Write;
 use test_lines::count;
 use vp_generator::{VpStop, vp_in};
 
-/// A limit of nodes, below 2^63.
+/// Reads a limit of nodes, below 2^63.
 fn limit(word: &str) -> Result<u64, AllocError>
     ensures { IfOk result (λ most. most < 2 ^ 63) }
 {
@@ -25,7 +26,7 @@ fn limit(word: &str) -> Result<u64, AllocError>
     }
 }
 
-/// Writes the nodes and the depth of a node's tree, and the length of the list.
+/// Writes the number of nodes and the depth of a node's tree, and the length of the list.
 fn write_sizes(graph: &Graph, id: NodeId, text: &mut String) -> Result<(), AllocError>
     requires { id < length graph.now }
 {
@@ -38,7 +39,8 @@ fn write_stop(limit: &str, len: usize, text: &mut String) -> Result<(), AllocErr
     write!(text, "{limit} {len}")
 }
 
-/// Writes the nodes and the depth of the form, or the limit that it passes; and then the length of the list.
+/// Writes the number of nodes and the depth of the form, or the limit that it passes, then the
+/// length of the list.
 fn write_form(
     graph: &mut Graph,
     acts: &[Act],
@@ -58,7 +60,7 @@ fn write_form(
     }
 }
 
-/// Writes what so many acts make of whether the variable 0 holds, which stands alone in the graph.
+/// Writes the form of `times` acts before the post `[b0]`, which is alone in the graph.
 pub fn write_repeated(
     alloc: Global,
     step: Step,
@@ -72,7 +74,8 @@ pub fn write_repeated(
     write_form(&mut graph, &acts, post, limit(most)?, text)
 }
 
-/// Writes what a toss of the variable 0 before any value of the variable 1 makes of whether both are the same.
+/// Writes the form of a flip of the variable 0 and a havoc of the variable 1, before the post that
+/// both are the same.
 pub fn write_before_any(alloc: Global, most: &str, text: &mut String) -> Result<(), AllocError> {
     let most = limit(most)?;
     if most >= 1_073_741_824 {
@@ -84,8 +87,9 @@ pub fn write_before_any(alloc: Global, most: &str, text: &mut String) -> Result<
     write_form(&mut graph, &acts, post, most, text)
 }
 
-/// Each draw makes 2*n + 3 nodes of n, so 60 make 5*2^60 - 3 of two. The list has two at first, the first draw puts seven more, and
-/// each further one two, since the variable is free no longer. Where the limit is passed the list is as it was.
+/// Each draw makes 2*n + 3 nodes of n, so that 60 draws make 5*2^60 - 3 of 2. The list has 2 nodes
+/// at first; the first draw adds 7 and each further one 2, as the variable is then not free. If the
+/// limit is passed, the list is unchanged.
 const DRAWS: &str = "\
 0 2 gives 2 2 2
 0 1 gives Nodes 2
@@ -97,8 +101,9 @@ const DRAWS: &str = "\
 60 200000 gives Nodes 2
 61 9223372036854775807 gives Nodes 2";
 
-/// Each toss makes 2*n + 17 nodes of n, so 58 make 19*2^58 - 17 of two. The weight has four nodes, the smaller of it and 1 six, and the
-/// rest of 1 eight. The first toss puts thirteen nodes more, the second fifteen, and each further one nine.
+/// Each flip makes 2*n + 17 nodes of n, so that 58 flips make 19*2^58 - 17 of 2. The weight has 4
+/// nodes, the smaller one of it and 1 has 6, and 1 minus this has 8. The first flip adds 13 nodes,
+/// the second 15, and each further one 9.
 const TOSSES: &str = "\
 1 21 gives 21 6 15
 1 20 gives Nodes 2
@@ -108,14 +113,14 @@ const TOSSES: &str = "\
 60 9223372036854775807 gives Nodes 2
 60 200000 gives Nodes 2";
 
-/// Each act makes the form one deeper.
+/// Each act adds one to the depth of the form.
 const DEPTHS: &str = "\
 1 3 gives 3 3 3
 998 200000 gives 1000 1000 1000
 999 200000 gives Depth 2
 999 999 gives Nodes 2";
 
-/// The binder stands in both products: 2*5 + 17 nodes of its five.
+/// The binder is in both products: 2*5 + 17 nodes of its 5.
 const BEFORE_ANY: &str = "\
 27 gives 27 6 22
 26 gives Nodes 4

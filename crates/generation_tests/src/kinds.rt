@@ -1,4 +1,4 @@
-//! What lines ask of the forms of acts.
+//! Questions of lines about the forms of acts.
 
 use crate::form_tests::{write_before_any, write_repeated};
 use crate::steps::Step;
@@ -6,12 +6,12 @@ use std::alloc::{AllocError, Global};
 use std::process::Abort;
 use test_lines::{LineKind, cut, differences};
 
-/// What a line asks.
+/// The question of a line.
 #[derive(Clone, Copy)]
 pub enum Kind {
-    /// `times most`: what so many such acts make of whether the variable 0 holds.
+    /// `times most`: the form of so many acts before the post `[b0]`.
     Repeated(Step),
-    /// `most`: what a toss before any value makes of whether both variables are the same.
+    /// `most`: the form of a flip and a havoc before the post that both variables are the same.
     BeforeAny,
 }
 

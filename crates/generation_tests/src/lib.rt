@@ -1,4 +1,6 @@
-//! Tests of the forms that acts make in a graph. Each line of a text is a test.
+//! Tests of the forms of acts in a graph. Each line of a text is a test.
+//!
+//! `AllocError` means that memory ran out, or that a line of a test is malformed.
 #![tactic(auto)]
 
 #[cfg(test)]

@@ -1,4 +1,4 @@
-//! Acts of which forms are made, and what follows them.
+//! The acts whose forms are made, and the posts after them.
 
 ghost use Rattle.std.specs.Prelude.{◌<◌, IfOk};
 ghost use Rattle.heyvl_num.specs.Rational.{zeroʳ, ◌≤ʳ◌};
@@ -19,18 +19,18 @@ use std::alloc::{AllocError, Global};
 pub enum Step {
     /// A draw of true and false, each with the weight 1/2.
     Draw,
-    /// A toss by 1/3 where the variable holds, and by 1/2 where not.
+    /// A flip with the weight 1/3 if the variable is true, and 1/2 otherwise.
     Toss,
     /// A `covalidate`.
     Validate,
 }
 
-/// A place of no file.
+/// Returns a place of no file.
 fn nowhere() -> Span {
     Span { from: 0, to: 0 }
 }
 
-/// 1 by a number.
+/// Returns 1/`den`.
 fn part_of_one(den: u32) -> Result<Frac, AllocError>
     requires { 0 < den }
     ensures { IfOk result (λ w. zeroʳ ≤ʳ w) }
@@ -41,7 +41,7 @@ fn part_of_one(den: u32) -> Result<Frac, AllocError>
     }
 }
 
-/// A draw of true and false.
+/// Returns a draw of true and false.
 fn draw(alloc: Global) -> Result<Act, AllocError>
     ensures { IfOk result (λ a. IsCalm (act_of a)) }
 {
@@ -52,7 +52,7 @@ fn draw(alloc: Global) -> Result<Act, AllocError>
     Ok(Act::Draw(0, parts, nowhere()))
 }
 
-/// 1/3 where the variable 0 holds, else 1/2.
+/// Returns the weight that is 1/3 if the variable 0 is true, and 1/2 otherwise.
 fn weight(alloc: Global) -> Result<Form, AllocError>
     ensures { IfOk result (λ f. IsProbability bools (form_of f)) }
 {
@@ -64,7 +64,7 @@ fn weight(alloc: Global) -> Result<Form, AllocError>
     Ok(Form::Select(test, first, second))
 }
 
-/// A toss.
+/// Returns a flip of the variable 0.
 fn toss(alloc: Global) -> Result<Act, AllocError>
     ensures { IfOk result (λ a. IsCalm (act_of a)) }
 {
@@ -82,7 +82,7 @@ fn act(alloc: Global, step: Step) -> Result<Act, AllocError>
     }
 }
 
-/// So many such acts.
+/// Returns `times` acts of this kind.
 pub fn repeated(alloc: Global, step: Step, times: u64) -> Result<Vec<Act>, AllocError>
     ensures { IfOk result (λ acts. AreCalm (acts_of acts.items)) }
 {
@@ -94,7 +94,7 @@ pub fn repeated(alloc: Global, step: Step, times: u64) -> Result<Vec<Act>, Alloc
     Ok(acts)
 }
 
-/// A toss, and then any value of the variable 1.
+/// Returns a flip of the variable 0, followed by a havoc of the variable 1.
 pub fn before_any(alloc: Global) -> Result<Vec<Act>, AllocError>
     ensures { IfOk result (λ acts. ActsFit bools (acts_of acts.items)) }
 {
@@ -103,7 +103,7 @@ pub fn before_any(alloc: Global) -> Result<Vec<Act>, AllocError>
     Ok(acts)
 }
 
-/// Whether the variable 0 holds, as a formula.
+/// Returns the formula `[b0]`, which is 1 if the variable 0 is true, and 0 otherwise.
 pub fn holds(graph: &mut Graph) -> Result<NodeId, AllocError>
     ensures { IfOk result (λ i. StandsPlain graph.new i) }
 {
@@ -111,7 +111,7 @@ pub fn holds(graph: &mut Graph) -> Result<NodeId, AllocError>
     graph.join(Node::Iverson(test))
 }
 
-/// Whether the variables 0 and 1 are the same, as a formula.
+/// Returns the formula that is 1 if the variables 0 and 1 are the same, and 0 otherwise.
 pub fn same(graph: &mut Graph) -> Result<NodeId, AllocError>
     ensures { IfOk result (λ i. StandsPlain graph.new i) }
 {
