@@ -1,4 +1,4 @@
--- Whether a numerator is 0.
+-- The test whether a numerator is 0.
 use Rattle.std.proofs.Common.{◌≡◌, refl, sym, ap, ◌∙◌, arith, Bool, true, false, nat_eq, of_z, FitsSigned}
 use Rattle.std.proofs.Math.IntN.{ℤ, pos, negsuc}
 use Rattle.std.specs.Int.{w128}

@@ -7,7 +7,7 @@ use std::alloc::{AllocError, Global};
 use test_lines::cut;
 use test_texts::multipliers_of;
 
-/// Writes whether the multipliers of the rows are a contradiction.
+/// Writes whether the multipliers combine the rows to a contradiction.
 pub fn write_contradiction(
     alloc: Global,
     asked: &str,
@@ -39,7 +39,7 @@ const CONTRADICTIONS: &str = "\
 1x0 1 <=0 -1x0 0 <=0 ; 0:1 gives no
 1x0 1 <=0 -1x0 0 <=0 ; 0:1 1:2 gives no";
 
-/// Four times (2^62 - 1)^2 is below 2^126, five times that is not.
+/// Four times (2^62 - 1)^2 is below 2^126, five times is not.
 const SUMS: &str = "\
 4611686018427387903 <=0 4611686018427387903 <=0 4611686018427387903 <=0 4611686018427387903 <=0 4611686018427387903 <=0 ; 0:4611686018427387903 1:4611686018427387903 2:4611686018427387903 3:4611686018427387903 gives yes
 4611686018427387903 <=0 4611686018427387903 <=0 4611686018427387903 <=0 4611686018427387903 <=0 4611686018427387903 <=0 ; 0:4611686018427387903 1:4611686018427387903 2:4611686018427387903 3:4611686018427387903 4:4611686018427387903 gives no";

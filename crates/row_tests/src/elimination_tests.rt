@@ -1,4 +1,4 @@
-//! What elimination finds of rows, worked out by hand.
+//! Results of elimination, worked out by hand.
 
 use crate::kinds::{Kind, check_texts};
 use crate::test_rows::{answer, rows_of};
@@ -13,7 +13,7 @@ fn write_refuted(multipliers: &[(u32, u64)], text: &mut String) -> Result<(), Al
     write_multipliers(multipliers, text)
 }
 
-/// Writes what is found of rows.
+/// Writes the result of elimination.
 fn write_elim(found: &Elim, text: &mut String) -> Result<(), AllocError> {
     match found {
         Elim::NoSolution(multipliers) => write_refuted(multipliers, text),
@@ -24,7 +24,7 @@ fn write_elim(found: &Elim, text: &mut String) -> Result<(), AllocError> {
     }
 }
 
-/// Writes what elimination finds of rows over variables of these types.
+/// Writes the result of eliminating the variables of rows, which have these types.
 pub fn write_elimination(alloc: Global, asked: &str, text: &mut String) -> Result<(), AllocError> {
     let (rows, types) = cut(asked, ';');
     let types = types_of(alloc, types)?;
@@ -32,7 +32,8 @@ pub fn write_elimination(alloc: Global, asked: &str, text: &mut String) -> Resul
     write_elim(&answer(alloc, &rows, &types)?, text)
 }
 
-/// Rows that nothing meets, with multipliers, and rows whose joins reach the bound.
+/// Rows without a solution, with multipliers, and rows whose combinations reach the limit of
+/// numbers.
 const REFUTED: &str = "\
 # `x - 1 <= 0` and `-x + 2 <= 0` add up to `1 <= 0`
 1x0 -1 <=0 -1x0 2 <=0 ; i gives refuted 0:1 1:1
@@ -64,7 +65,7 @@ const REFUTED: &str = "\
 # twice `-x + 2^61*y <= 0` and `2x + 1 <= 0` add up to `2^62*y + 1 <= 0`
 -1x0 2305843009213693952x1 0 <=0 2x0 1 <=0 1x1 0 <=0 ; ii gives bits";
 
-/// Rows that are met, with the point, or with the first variable that has no whole number.
+/// Rows with a solution: the point, or the first variable that has no integer.
 const POINTS: &str = "\
 # `-2x + y <= 0`, `2x + y - 2 <= 0` and `-y + 1 <= 0`: y is 1, and then x is 1/2
 -2x0 1x1 0 <=0 2x0 1x1 -2 <=0 -1x1 1 <=0 ; ii gives broken x0 [1/2 1/2] x1 1
@@ -110,8 +111,8 @@ fn eliminations(rt: HostRuntime) -> Result<(), AllocError> {
     check_texts(&rt, Kind::Elimination, &[REFUTED, POINTS])
 }
 
-/// Writes a line: for each i from 1 the row `-x + i*y`, for each j from 1 the row `x + 66*j*y`, each with the same further part, and
-/// then the rest of the line.
+/// Writes a line: the row `-x + i*y` for each i from 1 and the row `x + 66*j*y` for each j from 1,
+/// each followed by `part`, then `rest`.
 fn write_line(
     text: &mut String,
     lowers: u64,
@@ -124,11 +125,14 @@ fn write_line(
     text.push_str(rest)
 }
 
-/// The joins of 65 rows and 65 rows, with different coefficients of y, are 4,225 rows; those of 65 and 64 are 4,160. Those of 200
-/// and 200 are 40,000, whose coefficients of y are the numbers from 67 to 13,400: 13,334 different ones. Two more rows add up to 1 <= 0.
-/// Those of 1,000 and 1,000, of which nothing is kept, have the coefficients from 67 to 67,000.
-/// Without z each of these joins is a multiple of y <= 0, so one row is left. Where y and z aren't negative, one lower and one upper
-/// row of the 130 imply the others; where y is at least 3, `-y <= 0` isn't among the rows, and they imply none.
+/// 65 rows and 65 rows with different coefficients of y have 4,225 combinations; 65 and 64 have
+/// 4,160. 200 and 200 have 40,000, whose coefficients of y are 13,334 different numbers from 67 to
+/// 13,400. Two more rows add up to 1 <= 0. 1,000 and 1,000 have coefficients from 67 to 67,000;
+/// none of their combinations is kept.
+///
+/// Without z each combination is a multiple of y <= 0, so that one row is left. If y and z are not
+/// negative, one lower and one upper row of the 130 imply the others. If y is at least 3, `-y <= 0`
+/// is not among the rows, and they imply none.
 fn write_crossings(text: &mut String) -> Result<(), AllocError> {
     let with_z = "x1 1x2 0 <=0 ";
     write_line(text, 65, 65, with_z, "; iii gives rows 1 4225\n")?;

@@ -1,11 +1,11 @@
-//! For tests: the fraction 0.
+//! The fraction 0 in tests.
 
 ghost use Rattle.std.specs.Prelude.{◌≡◌};
 ghost use Rattle.heyvl_num.specs.Value.{is_zeroʳ};
 
 use heyvl_num::Frac;
 
-/// Whether the fraction is 0.
+/// Returns whether the fraction is 0.
 pub fn is_zero(x: &Frac) -> bool
     ensures { result ≡ is_zeroʳ x.now }
 {

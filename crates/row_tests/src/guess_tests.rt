@@ -1,4 +1,4 @@
-//! What is found of rows before anything is eliminated.
+//! Proposals for rows, before any variable is eliminated.
 
 use crate::kinds::{Kind, check_texts};
 use crate::test_rows::rows_of;
@@ -17,7 +17,7 @@ fn write_found(finding: &Finding, text: &mut String) -> Result<(), AllocError> {
     }
 }
 
-/// Writes how many multipliers are found, or whether a point is.
+/// Writes the number of multipliers that are found, or whether a point is.
 pub fn write_finding(alloc: Global, rows: &str, text: &mut String) -> Result<(), AllocError> {
     let rows = rows_of(alloc, rows)?;
     let mut search = Search::new(alloc);

@@ -1,4 +1,4 @@
-//! What lines ask of rows.
+//! Questions of lines about rows.
 
 use crate::contradiction_tests::write_contradiction;
 use crate::elimination_tests::write_elimination;
@@ -8,16 +8,17 @@ use std::alloc::{AllocError, Global};
 use std::process::Abort;
 use test_lines::{LineKind, differences};
 
-/// What a line asks.
+/// The question of a line.
 #[derive(Clone, Copy)]
 pub enum Kind {
-    /// `rows ; types`: what elimination finds.
+    /// `rows ; types`: the result of elimination.
     Elimination,
-    /// `rows`: what is found before anything is eliminated.
+    /// `rows`: the proposal before any variable is eliminated.
     Finding,
-    /// `rows ; multipliers`: whether they are a contradiction.
+    /// `rows ; multipliers`: whether they combine the rows to a contradiction.
     Contradiction,
-    /// `coefficient of x, of y, constant ; type of x ; <`: the row of a linear value, strict where there is a sign.
+    /// `coefficient of x, of y, constant ; type of x ; <`: the row of a linear value, strict if
+    /// there is a `<`.
     Tightening,
 }
 

@@ -1,4 +1,7 @@
-//! Tests of rows: what is found of them, what eliminates them, and how linear values become rows. Each line of a text is a test.
+//! Tests of rows: proposals, elimination, and the rows of linear values. Each line of a text is a
+//! test.
+//!
+//! `AllocError` means that memory ran out, or that a line of a test is malformed.
 #![tactic(auto)]
 
 #[cfg(test)]

@@ -1,4 +1,4 @@
-//! Rows for tests, written as lists of terms.
+//! Rows of tests, given as lists of terms. Malformed rows yield `AllocError`.
 ghost use Rattle.std.specs.Prelude.{◌≡◌, ◌<◌, IfOk, IsTrue};
 ghost use Rattle.std.specs.List.{All};
 ghost use Rattle.linear_rows.specs.Row.{IsRow};
@@ -22,7 +22,7 @@ fn is_number(ty: &Ty) -> bool
     }
 }
 
-/// A row, where the variables of the terms grow, and no coefficient is 0; else want of memory.
+/// Returns the row with these terms. Their variables have to grow, and no coefficient may be 0.
 fn row(alloc: Global, terms: &[(u32, i64)], rest: i64, strict: bool) -> Result<Row, AllocError>
     ensures { IfOk result IsRow }
 {
@@ -52,7 +52,7 @@ fn row(alloc: Global, terms: &[(u32, i64)], rest: i64, strict: bool) -> Result<R
     })
 }
 
-/// Whether there is a variable with this number, and it is one of numbers.
+/// Returns whether the variable with the number `x` exists and is numeric.
 fn is_number_at(vars: &[Ty], x: u32) -> bool
     ensures { result ≡ is_numeric (types_in vars.now x) }
 {
@@ -62,7 +62,7 @@ fn is_number_at(vars: &[Ty], x: u32) -> bool
     }
 }
 
-/// Whether each variable of the row is a number.
+/// Returns whether each variable of the row is numeric.
 fn is_over_numbers(row: &Row, vars: &[Ty]) -> bool
     ensures { IsTrue result → IsNumericRow vars.now row.now }
 {
@@ -85,7 +85,7 @@ fn are_over_numbers(rows: &[Row], vars: &[Ty]) -> bool
     true
 }
 
-/// What is found of rows over numbers; want of memory where a variable is none.
+/// Returns the result of eliminating the variables of rows, which have to be numeric.
 pub fn answer(alloc: Global, rows: &[Row], vars: &[Ty]) -> Result<Elim, AllocError>
     requires rows { All IsRow rows.now }
 {
@@ -98,7 +98,7 @@ pub fn answer(alloc: Global, rows: &[Row], vars: &[Ty]) -> Result<Elim, AllocErr
     eliminate(alloc, rows, vars)
 }
 
-/// The rows of a text, each brought to what the library takes; want of memory where one isn't that.
+/// Reads the rows of a text, each in the form that the library requires.
 pub fn rows_of(alloc: Global, text: &str) -> Result<Vec<Row>, AllocError>
     ensures { IfOk result (λ v. All IsRow v.items) }
 {

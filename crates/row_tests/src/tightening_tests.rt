@@ -13,7 +13,7 @@ use std::alloc::{AllocError, Global};
 use test_lines::cut;
 use test_texts::{fraction, types_of, write_row};
 
-/// A multiple of the variable 0, one of the variable 1 and a constant.
+/// Returns the sum of a multiple of the variable 0, one of the variable 1, and a constant.
 fn line(alloc: Global, first: Frac, second: Frac, rest: Frac) -> Result<Lin, AllocError>
     ensures { IfOk result (λ l. AreNormal (lin_of l).terms) }
 {
@@ -27,7 +27,7 @@ fn line(alloc: Global, first: Frac, second: Frac, rest: Frac) -> Result<Lin, All
     Ok(Lin { terms, rest })
 }
 
-/// The value of a text: what x and y are multiplied by, and the constant.
+/// Reads a linear value: the coefficients of x and y, and the constant.
 fn line_of(alloc: Global, text: &str) -> Result<Lin, AllocError>
     ensures { IfOk result (λ l. AreNormal (lin_of l).terms) }
 {
@@ -36,7 +36,7 @@ fn line_of(alloc: Global, text: &str) -> Result<Lin, AllocError>
     line(alloc, fraction(first)?, fraction(second)?, fraction(rest)?)
 }
 
-/// Writes the row of a linear value; x has the type of the letter, and y is a UInt.
+/// Writes the row of a linear value. x has the type of the letter, and y is a UInt.
 pub fn write_tightened(alloc: Global, asked: &str, text: &mut String) -> Result<(), AllocError> {
     let (value, rest) = cut(asked, ';');
     let (ty, sign) = cut(rest, ';');
@@ -49,7 +49,8 @@ pub fn write_tightened(alloc: Global, asked: &str, text: &mut String) -> Result<
     }
 }
 
-/// Whole variables: the coefficients lose their common divisor, the constant is rounded up, and no row stays strict.
+/// Integer variables: the coefficients are divided by their common divisor, the constant is rounded
+/// up, and no row stays strict.
 const WHOLE: &str = "\
 # x <= 0 and x < 0
 1 0 0 ; i gives 1x0 0 <=0
@@ -90,7 +91,8 @@ const WHOLE: &str = "\
 0 -1/3 -2 ; i gives -1x1 -6 <=0
 0 -1/3 -2 ; i ; < gives -1x1 -5 <=0";
 
-/// With a UReal, or a Boolean, among the variables the constant stays exact, and a strict row stays strict.
+/// If a UReal or a Boolean is among the variables, the constant stays exact and a strict row stays
+/// strict.
 const FRACTIONS: &str = "\
 1 0 0 ; r gives 1x0 0 <=0
 1 0 0 ; r ; < gives 1x0 0 <0
@@ -126,7 +128,7 @@ const FRACTIONS: &str = "\
 # a UReal that doesn't occur changes nothing: 2y - 3
 0 2 -3 ; r ; < gives 1x1 -1 <=0";
 
-/// Without variables the constant is a sign, and the row stays strict.
+/// Without variables, the constant is -1, 0 or 1, and a strict row stays strict.
 const CONSTANTS: &str = "\
 0 0 0 ; i gives 0 <=0
 0 0 0 ; r ; < gives 0 <0
@@ -141,7 +143,8 @@ const CONSTANTS: &str = "\
 0 0 4611686018427387903/2 ; i gives 1 <=0
 0 0 4611686018427387903/2 ; r ; < gives 1 <0";
 
-/// Bits comes exactly where a number reaches 2^62, before or after, or the constant's multiple 2^127.
+/// The result is `bits` exactly if a number reaches 2^62, before or after, or the multiple of the
+/// constant reaches 2^127.
 const BOUND: &str = "\
 # before: a coefficient, a constant or a denominator is 2^62
 4611686018427387904 0 0 ; i gives bits
