@@ -33,65 +33,68 @@ use Rattle.linear_rows.proofs.exported.Fractions.{solvable_is}
 goal : Bool → Form → Form → List Ty → Goal
 goal upper stated found types = record { upper = upper; stated = stated; found = found; types = types; names = []; own = 0 }
 
--- a multiple of the variable i, and a constant
+-- A multiple of the variable `i`, plus a constant.
 row : ℕ → ℤ → ℤ → Bool → Row
 row i p c strict = record { terms = (i, p) ∷ []; rest = c; strict = strict }
 
--- a multiple of the variable 0, one of the variable 1, and a constant
+-- A multiple of the variable 0, plus one of the variable 1, plus a constant.
 row_of_two : ℤ → ℤ → ℤ → Bool → Row
 row_of_two p q c strict = record { terms = (0, p) ∷ ((1, q) ∷ []); rest = c; strict = strict }
 
 sign : ℤ → Bool → Row
 sign c strict = record { terms = []; rest = c; strict = strict }
 
--- x < 0, answered
+-- The path that answers `x < 0` by `held`.
 negative : Bool → List Taken
 negative held = record { atom = Atom.row (variable 0) true; held = held } ∷ []
 
--- ite(x < 0, a, 1) is stated, and b found
+-- The goal whose stated bound is `ite(x < 0, a, 1)` and whose computed form is `b`.
 if_negative : Value → Value → Goal
 if_negative a b = goal true (Form.select (Cond.lt (Form.variable 0) (Form.number (finite zeroʳ))) (Form.number a) (Form.number (finite oneʳ))) (Form.number b) (Ty.UInt ∷ [])
 
--- 0 where x < 0, and else 1; 1 is found. The denied goal stands between the rows of the path and -x <= 0.
+-- The stated bound is 0 if x < 0, and otherwise 1; the computed form is 1. The denied goal is
+-- between the rows of the path and -x <= 0.
 denied_in_the_middle : (rows_of (if_negative (finite zeroʳ) (finite oneʳ)) (negative true) true ≡ Some (row 0 (pos 1) (pos 1) false ∷ (sign (negsuc 0) true ∷ (row 0 (negsuc 0) (pos 0) false ∷ [])))) × (rows_of (if_negative (finite zeroʳ) (finite oneʳ)) (negative false) true ≡ Some (row 0 (negsuc 0) (pos 0) false ∷ (sign (pos 0) true ∷ (row 0 (negsuc 0) (pos 0) false ∷ []))))
 unfolding goal row sign negative if_negative minus plus scaled minus_oneʳ is_sized fits is_zeroʳ leqʳ tightened common_multiple common_divisor factor ratio gcd gcd_steps zeroʳ oneʳ ◌+ʳ◌ ◌*ʳ◌ floorʳ ceilʳ product_fits
 denied_in_the_middle = (refl, refl)
 
--- without the denied goal, and before the end, where there is none
+-- The rows without the denied goal, and the rows before the end, which has no denied goal yet.
 not_denied : (rows_of (if_negative (finite zeroʳ) (finite oneʳ)) (negative true) false ≡ Some (row 0 (pos 1) (pos 1) false ∷ (row 0 (negsuc 0) (pos 0) false ∷ []))) × (rows_of (if_negative (finite zeroʳ) (finite oneʳ)) [] true ≡ Some [])
 unfolding goal row negative if_negative minus plus scaled minus_oneʳ is_sized fits is_zeroʳ leqʳ tightened common_multiple common_divisor factor ratio gcd gcd_steps zeroʳ oneʳ ◌+ʳ◌ ◌*ʳ◌ floorʳ ceilʳ product_fits
 not_denied = (refl, refl)
 
--- 1/(2^31 - 1) - 1/(2^61 - 1) has a denominator above 2^62
+-- 1/(2^31 - 1) - 1/(2^61 - 1) has a denominator above 2^62.
 denied_goal_is_too_large : (rows_of (if_negative (finite (ratio (pos 1) 2147483647)) (finite (ratio (pos 1) 2305843009213693951))) (negative true) true ≡ None) × (rows_of (if_negative (finite (ratio (pos 1) 2147483647)) (finite (ratio (pos 1) 2305843009213693951))) (negative true) false ≡ Some (row 0 (pos 1) (pos 1) false ∷ (row 0 (negsuc 0) (pos 0) false ∷ [])))
 unfolding goal row negative if_negative minus plus scaled minus_oneʳ is_sized fits is_zeroʳ leqʳ tightened common_multiple common_divisor factor ratio gcd gcd_steps zeroʳ oneʳ ◌+ʳ◌ ◌*ʳ◌ floorʳ ceilʳ product_fits
 denied_goal_is_too_large = (refl, refl)
 
--- x is stated and y found: in an upper goal x < y is the denied goal, in a lower one y < x. A UInt or a UReal isn't negative, an Int may be.
+-- The stated bound is x and the computed form y: the denied goal is x < y in an upper goal, and
+-- y < x in a lower one. A UInt or a UReal is not negative, an Int may be.
 denied_goals : (rows_of (goal true (Form.variable 0) (Form.variable 1) (Ty.Int ∷ (Ty.UInt ∷ []))) [] true ≡ Some (row_of_two (pos 1) (negsuc 0) (pos 1) false ∷ (row 1 (negsuc 0) (pos 0) false ∷ []))) × (rows_of (goal false (Form.variable 0) (Form.variable 1) (Ty.Int ∷ (Ty.Int ∷ []))) [] true ≡ Some (row_of_two (negsuc 0) (pos 1) (pos 1) false ∷ [])) × (rows_of (goal true (Form.variable 0) (Form.variable 1) (Ty.UReal ∷ (Ty.UInt ∷ []))) [] true ≡ Some (row_of_two (pos 1) (negsuc 0) (pos 0) true ∷ (row 0 (negsuc 0) (pos 0) false ∷ (row 1 (negsuc 0) (pos 0) false ∷ []))))
 unfolding goal row row_of_two minus plus scaled minus_oneʳ is_sized fits is_zeroʳ tightened common_multiple common_divisor factor ratio gcd gcd_steps zeroʳ oneʳ ◌+ʳ◌ ◌*ʳ◌ floorʳ ceilʳ product_fits
 denied_goals = (refl, refl, refl)
 
--- infinity can't be the smaller side; where it is the other one, the denied goal is -1 < 0
+-- Infinity cannot be the smaller side. If it is the other one, the denied goal is -1 < 0.
 infinite_sides : (rows_of (goal true (Form.number infinite) (Form.variable 0) (Ty.UInt ∷ [])) [] true ≡ Some []) × (rows_of (goal true (Form.variable 0) (Form.number infinite) (Ty.UInt ∷ [])) [] true ≡ Some (sign (negsuc 0) true ∷ [])) × (rows_of (goal false (Form.variable 0) (Form.number infinite) (Ty.UInt ∷ [])) [] true ≡ Some []) × (rows_of (goal false (Form.number infinite) (Form.variable 0) (Ty.UInt ∷ [])) [] true ≡ Some (sign (negsuc 0) true ∷ [])) × (rows_of (goal true (Form.number infinite) (Form.number infinite) []) [] true ≡ Some []) × (rows_of (goal false (Form.number infinite) (Form.number infinite) []) [] true ≡ Some [])
 unfolding goal sign minus_oneʳ is_sized fits tightened ratio gcd gcd_steps zeroʳ oneʳ
 infinite_sides = (refl, refl, refl, refl, refl, refl)
 
--- the two comparisons of x = y for a UReal x and a UInt y: x <= y, and y <= x or its denial, x < y; a Boolean gives no row
+-- The two comparisons of x = y, for a UReal x and a UInt y: x <= y, then y <= x or its denial, x <
+-- y. A Boolean has no row.
 answers_in_order : (rows_of (goal true (Form.embed (Cond.equal (Form.variable 0) (Form.variable 1))) (Form.variable 0) (Ty.UReal ∷ (Ty.UInt ∷ []))) (record { atom = Atom.row (minus (variable 0) (variable 1)) false; held = true } ∷ (record { atom = Atom.row (minus (variable 1) (variable 0)) false; held = false } ∷ [])) false ≡ Some (row_of_two (pos 1) (negsuc 0) (pos 0) false ∷ (row_of_two (pos 1) (negsuc 0) (pos 0) true ∷ (row 0 (negsuc 0) (pos 0) false ∷ (row 1 (negsuc 0) (pos 0) false ∷ []))))) × (rows_of (goal true (Form.embed (Cond.flag 0)) (Form.number infinite) (Ty.Bool ∷ [])) (record { atom = Atom.truth 0; held = true } ∷ []) true ≡ Some [])
 unfolding goal row row_of_two minus plus scaled minus_oneʳ is_sized fits is_zeroʳ tightened common_multiple common_divisor factor ratio gcd gcd_steps zeroʳ oneʳ ◌+ʳ◌ ◌*ʳ◌ floorʳ ceilʳ product_fits
 answers_in_order = (refl, refl)
 
--- ---- A front that is dropped: a natural number below 0
+-- ---- A dropped front: a natural number below 0
 
 natural : Goal
 natural = if_negative (finite zeroʳ) (finite oneʳ)
 
--- x + 1 <= 0 and -x <= 0
+-- x + 1 <= 0 and -x <= 0.
 unmet_rows : List Row
 unmet_rows = row 0 (pos 1) (pos 1) false ∷ (row 0 (negsuc 0) (pos 0) false ∷ [])
 
--- their sum is 1 <= 0
+-- Their sum is 1 <= 0.
 each_once : List (ℕ × ℕ)
 each_once = (0, 1) ∷ ((1, 1) ∷ [])
 
@@ -118,7 +121,7 @@ dropped : IsDropped natural (negative true)
 unfolding natural unmet_rows
 dropped = record { rows = unmet_rows; are_rows = not_denied.0; unsolvable = unsolvable }
 
--- the path without an answer has no rows, and so it is kept
+-- The path without an answer has no rows, so that it is kept.
 nothing_at_the_start : rows_of natural [] false ≡ Some []
 unfolding goal natural if_negative minus plus scaled minus_oneʳ is_sized fits is_zeroʳ leqʳ ratio gcd gcd_steps zeroʳ oneʳ ◌+ʳ◌ ◌*ʳ◌
 nothing_at_the_start = refl
@@ -134,7 +137,7 @@ front : IsFront natural (negative true)
 unfolding negative
 front = IsFront.answer [] (Atom.row (variable 0) true) true IsFront.start (record { kept = start_is_kept; asks = asks_at_the_start })
 
--- 0 occurs in two of these rows, 1 in the last two, 2 in none, and 3 in the last one
+-- The variable 0 occurs in the first two rows, 1 in the last two, 2 in none, and 3 in the last one.
 three_rows : List Row
 three_rows = row 0 (pos 1) (pos 0) false ∷ (row_of_two (pos 1) (pos 2) (pos 5) false ∷ (record { terms = (1, pos 1) ∷ ((3, pos 1) ∷ []); rest = pos 0; strict = true } ∷ []))
 

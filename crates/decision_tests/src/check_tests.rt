@@ -18,8 +18,9 @@ const HALVES: &str = "\
 1/2 1/2 ;  ; f0:0 gives no
 1/2 1/2 ;  ; f0:4611686018427387904 gives no";
 
-/// States 0 where x is below 0, else 1, and finds 1, for a natural number x. Where x is below 0 the rows are `x + 1 <= 0`, the denied
-/// goal `-1 < 0` and `-x <= 0`; else they are `-x <= 0`, the denied goal `0 < 0` and `-x <= 0`.
+/// The stated bound is 0 if x is below 0, and otherwise 1; the computed form is 1; x is a natural
+/// number. If x is below 0, the rows are `x + 1 <= 0`, the denied goal `-1 < 0` and `-x <= 0`;
+/// otherwise `-x <= 0`, the denied goal `0 < 0` and `-x <= 0`.
 const BELOW_ZERO: &str = "\
 # the denied goal stands between the answers of the path and the signs of the variables
 x 0 < 0 1 select 1 ; u ; f0:1,2:1 f1:1 s gives yes
@@ -35,7 +36,7 @@ x 0 < 0 1 select 1 ; u ; f0:1,2:1 f1:1 s f1:1 s gives no t
 x 0 < 0 1 select 1 ; u ; f0:1,2:1 t s gives no f
 x 0 < 0 1 select 1 ; u ; t t s gives no t";
 
-/// Each time 1 is stated and found.
+/// The stated bound and the computed form are always 1.
 const QUESTIONS: &str = "\
 # the denied goal is the row 1 of the left branch, and the row 2 of each branch on the right
 x 1 <= 1 x 2 <= 1 1 select select 1 ; i ; f1:1 f2:1 f2:1 s s gives yes
@@ -47,7 +48,8 @@ x 0 <= 1 1 select 1 ; u ; f0:1,2:1 f1:1 s gives no t
 # with the denied goal, 0 < 0, it is a contradiction
 x 0 <= 1 1 select 1 ; u ; f0:1,1:1,2:1 f1:1 s gives yes";
 
-/// Six questions that hold together nowhere: four times (2^62 - 1)^2 is below 2^126, six times that is not.
+/// Six comparisons that never hold together: four times (2^62 - 1)^2 is below 2^126, six times is
+/// not.
 const SUMS: &str = "\
 x -4611686018427387903 <= 4611686018427387903 x <= x -4611686018427387903 <= 4611686018427387903 x <= x -4611686018427387903 <= 4611686018427387903 x <= 1 1 select 1 select 1 select 1 select 1 select 1 select 1 ; i ; f0:4611686018427387903,1:4611686018427387903,2:4611686018427387903,3:4611686018427387903 f6:1 s f5:1 s f4:1 s f3:1 s f2:1 s f1:1 s gives yes
 x -4611686018427387903 <= 4611686018427387903 x <= x -4611686018427387903 <= 4611686018427387903 x <= x -4611686018427387903 <= 4611686018427387903 x <= 1 1 select 1 select 1 select 1 select 1 select 1 select 1 ; i ; f0:4611686018427387903,1:4611686018427387903,2:4611686018427387903,3:4611686018427387903,4:4611686018427387903,5:4611686018427387903 f6:1 s f5:1 s f4:1 s f3:1 s f2:1 s f1:1 s gives no tttttt";
@@ -66,7 +68,8 @@ inf true 1 x y *1 select ; rr ; t gives no
 inf true 1 x y *1 select ; rr ; f0:1 gives no
 inf true 1 x y *1 select ; rr ; t t s gives no";
 
-/// The first goal holds of whole numbers and fails of a fraction: y is at most 2x, at most 2 - 2x and at least 1.
+/// The first goal holds for all integers and fails at a fraction: y is at most 2x, at most 2 - 2x
+/// and at least 1.
 const SPLITS: &str = "\
 y x scale:2 <= y 2 x scale:2 - <= and 1 y <= and 0 1 select 1 ; ii ; f0:1,2:1,3:2 f1:1,2:1,3:2 i0:0 f3:1 s f2:1 s f1:1 s gives yes
 # at another number, with the halves exchanged, of the other variable

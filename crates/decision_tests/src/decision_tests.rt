@@ -1,26 +1,26 @@
-//! What is decided of goals, worked out by hand.
+//! Decisions of goals, worked out by hand.
 
 use crate::kinds::{Kind, check_texts};
 use std::alloc::AllocError;
 use test_lines::write_multiples;
 
-/// How many leaves the certificate of a goal has that holds, and whether it is accepted; else where the goal fails, or why nothing is
-/// known of it.
+/// For a proved goal, the number of leaves of its certificate, and whether it is accepted;
+/// otherwise the state in which the goal fails, or the cause.
 const COMPARISONS: &str = "\
 # the sum of the truths of so many comparisons with 0 is at least 0
 v2 0 <= [] v1 0 <= [] v0 0 <= [] 0 + + + 0 ; iii gives proved 8 yes
 v12 0 <= [] v11 0 <= [] v10 0 <= [] v9 0 <= [] v8 0 <= [] v7 0 <= [] v6 0 <= [] v5 0 <= [] v4 0 <= [] v3 0 <= [] v2 0 <= [] v1 0 <= [] v0 0 <= [] 0 + + + + + + + + + + + + + 0 ; iiiiiiiiiiiii gives cells 4097";
 
-/// The same of Booleans.
+/// Decisions of goals with Booleans.
 const BOOLEANS: &str = "\
 b2 [] b1 [] b0 [] 0 + + + 0 ; bbb gives proved 8 yes
 b11 [] b10 [] b9 [] b8 [] b7 [] b6 [] b5 [] b4 [] b3 [] b2 [] b1 [] b0 [] 0 + + + + + + + + + + + + 0 ; bbbbbbbbbbbb gives proved 4096";
 
-/// One Boolean more.
+/// A decision of a goal with one Boolean more.
 const MORE: &str = "\
 b12 [] b11 [] b10 [] b9 [] b8 [] b7 [] b6 [] b5 [] b4 [] b3 [] b2 [] b1 [] b0 [] 0 + + + + + + + + + + + + + 0 ; bbbbbbbbbbbbb gives cells 4097";
 
-/// The same of goals with few cells.
+/// Decisions of goals with few cells.
 const FEW: &str = "\
 # a later false cell has a point
 b2 y x x + <= x x + y + 2 <= and 1 y <= and 0 1 select 0 select 1 ; iib gives fails at 0 0 false
@@ -39,7 +39,7 @@ x 0 < 1/2147483647 1 select 1/2305843009213693951 ; u gives bits
 # a product of two variables
 x y *5 0 ; rr gives nonlinear at 5..6";
 
-/// The same of goals at which the greedy choice finds no whole number for a variable.
+/// Decisions of goals for which the greedy choice finds no integer for a variable.
 const SPLITS: &str = "\
 # where y <= 2x, 2x + y <= 2 and 1 <= y: y takes 1, and x is 1/2 then; it is at most 0 or at least 1
 y x x + <= x x + y + 2 <= and 1 y <= and 0 1 select 1 ; ii gives proved 5 yes
@@ -54,7 +54,7 @@ x 3 <= 3 x <= and y 5 <= and 5 y <= and 0 x x + y y + v2 + <= y y + v2 + x x + <
 # the same of signed numbers
 x x + y y + v2 + <= y y + v2 + x x + <= and 1 v2 <= and v2 1 <= and 0 1 select 1 ; iii gives broken x0 [-7/2 -7/2] x1 -4";
 
-/// The same of goals that ask again what the path has answered.
+/// Decisions of goals with comparisons that the path has already answered.
 const REPEATED: &str = "\
 # thrice the same: two cells, and on the way to each of them two sides are dropped
 3 x 1 <= [] x 1 <= [] x 1 <= [] + + ; u gives proved 6 yes
@@ -101,7 +101,8 @@ fn decisions(rt: HostRuntime) -> Result<(), AllocError> {
     check_texts(&rt, Kind::Certificate, &[CERTIFICATES])
 }
 
-/// States 0 where `i*y + z <= x` for each i from 1 to 65, and `x + 66*j*y + z <= 0` for each j from 1 to 64, and else 1.
+/// Writes a goal whose stated bound is 0 if `i*y + z <= x` for each i from 1 to 65 and
+/// `x + 66*j*y + z <= 0` for each j from 1 to 64, and 1 otherwise.
 fn write_crossing(text: &mut String) -> Result<(), AllocError> {
     text.push_str("true ")?;
     write_multiples(text, 65, 1, "", " y * v2 + x <= and ")?;
@@ -109,7 +110,8 @@ fn write_crossing(text: &mut String) -> Result<(), AllocError> {
     text.push_str("0 1 select 1 ; ")
 }
 
-/// 65 lower and 64 upper bounds of x make 4,160 rows. Where y and z aren't negative, two of the bounds imply the others.
+/// 65 lower and 64 upper bounds of x make 4,160 rows. If y and z are not negative, two of the
+/// bounds imply the others.
 #[test]
 fn rows_that_are_too_many(rt: HostRuntime) -> Result<(), AllocError> {
     let mut free = String::new(rt.alloc());

@@ -1,10 +1,11 @@
-//! Goals with ends that no state reaches: the certificates that `decide` gives there, worked out by hand.
+//! Goals with cells that no state reaches, and the certificates of `decide` for them, worked out by
+//! hand.
 
 use crate::kinds::{Kind, check_texts};
 use std::alloc::AllocError;
 
-/// The first of the stated sums where the first two comparisons hold, else the second one, is at least the first of the found sums
-/// where the third comparison holds, else the second one.
+/// The stated bound selects one of two sums by the first two comparisons, and the computed form
+/// selects one by the third comparison.
 const ROWS: &str = "\
 1 x * 0 + 0 < 0 0 <= and 0 1 select 0 0 <= 1 0 select ; uu ; 0 gives sff 0:1 2:1
 1 x * 0 + 0 < 0 0 <= and 0 1 y * 0 + select 0 0 <= 1 y * 0 + 0 select ; uu ; 0 gives sff 0:1 2:1

@@ -1,4 +1,4 @@
-//! What the libraries give for goals.
+//! Results of the libraries for goals.
 
 use crate::paths::path_with;
 use crate::question_texts::{write_ask, write_cause};
@@ -13,7 +13,7 @@ use std::fmt::Write;
 use test_lines::{cut, index};
 use test_texts::{write_point, write_rows};
 
-/// Writes what stands behind these answers to the goal's questions.
+/// Writes the next comparison of the goal after these answers, or its end.
 pub fn write_question(
     alloc: Global,
     goal: &Goal,
@@ -33,7 +33,7 @@ fn write_list(rows: &RowList, text: &mut String) -> Result<(), AllocError> {
     }
 }
 
-/// `answers ; +`: writes the rows of the path, with the denied goal where there is a plus sign.
+/// `answers ; +`: writes the rows of the path, with the denied goal if there is a plus sign.
 pub fn write_path_rows(
     alloc: Global,
     goal: &Goal,
@@ -47,7 +47,7 @@ pub fn write_path_rows(
     }
 }
 
-/// Writes where the first product of two variables stands.
+/// Writes the place of the first product of two variables.
 pub fn write_product(goal: &Goal, text: &mut String) -> Result<(), AllocError> {
     match nonlinear(goal) {
         Some(place) => write!(text, "{place}"),
@@ -75,7 +75,7 @@ fn write_checked(
     }
 }
 
-/// Writes whether a certificate is accepted, or after which answers it is refused.
+/// Writes whether a certificate is accepted, or the answers to the node at which it is refused.
 pub fn write_check(
     alloc: Global,
     goal: &Goal,
@@ -114,7 +114,8 @@ fn write_decided(
     }
 }
 
-/// Writes what is decided, and whether a certificate of at most 100 leaves is accepted.
+/// Writes the decision of the goal, and whether its certificate is accepted if it has at most 100
+/// leaves.
 pub fn write_decision(alloc: Global, goal: &Goal, text: &mut String) -> Result<(), AllocError> {
     write_decided(alloc, goal, &decision_of(alloc, goal)?, text)
 }

@@ -1,4 +1,4 @@
-//! What lines ask of goals.
+//! Questions of lines about goals.
 
 use crate::goal_texts::{
     write_certificate, write_check, write_decision, write_path_rows, write_product, write_question,
@@ -9,20 +9,24 @@ use std::process::Abort;
 use test_lines::{LineKind, cut, differences};
 use test_texts::goal_of;
 
-/// What a line asks of a goal.
+/// The question of a line about a goal.
 #[derive(Clone, Copy)]
 pub enum Kind {
-    /// `goal ; answers`: what stands there after these answers to its questions.
+    /// `goal ; answers`: its next comparison after these answers, or its end.
     Question,
-    /// `goal ; types ; answers ; +`: the rows of the path, with the denied goal where there is a plus sign.
+    /// `goal ; types ; answers ; +`: the rows of the path, with the denied goal if there is a plus
+    /// sign.
     Rows,
-    /// `goal`: where its first product of two variables stands.
+    /// `goal`: the place of its first product of two variables.
     Product,
-    /// `goal ; types ; certificate`: whether it is accepted, or after which answers it is refused.
+    /// `goal ; types ; certificate`: whether it is accepted, or the answers to the node at which it
+    /// is refused.
     Check,
-    /// `goal ; types`: what is decided, and whether a certificate of at most 100 leaves is accepted.
+    /// `goal ; types`: its decision, and whether the certificate is accepted if it has at most 100
+    /// leaves.
     Decision,
-    /// `goal ; types ; leaf`: the letters of the certificate's nodes, and the multipliers of the leaf with this number.
+    /// `goal ; types ; leaf`: the letters of the certificate's nodes, and the multipliers of the
+    /// leaf with this number.
     Certificate,
 }
 
@@ -43,7 +47,8 @@ fn write_of_goal(
     }
 }
 
-/// The types of the variables, which stand in lines of some kinds, and what stands behind them.
+/// Splits the text after the goal into the types of the variables, which lines of some kinds have,
+/// and the rest.
 fn types_and_rest(kind: Kind, text: &str) -> (&str, &str) {
     match kind {
         Kind::Question | Kind::Product => ("", text),

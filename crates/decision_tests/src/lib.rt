@@ -1,5 +1,7 @@
-//! Tests of goals: what they ask, the rows of their paths, what is decided of them, and their certificates. Each line of a text is a
-//! test.
+//! Tests of goals: their comparisons, the rows of their paths, their decisions, and their
+//! certificates. Each line of a text is a test.
+//!
+//! `AllocError` means that memory ran out, or that a line of a test is malformed.
 #![tactic(auto)]
 
 #[cfg(test)]

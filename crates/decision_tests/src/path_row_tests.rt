@@ -3,7 +3,8 @@
 use crate::kinds::{Kind, check_texts};
 use std::alloc::AllocError;
 
-/// The rows of the answers, then the denied goal, then the signs of the unsigned variables that occur.
+/// The rows of the answers, then the denied goal, then the signs of the unsigned variables that
+/// occur.
 const ROWS: &str = "\
 # a natural number below 0, where 0 is stated and 1 is found: x + 1 <= 0, then the denied goal -1 < 0, and then -x <= 0
 x 0 < 0 1 select true [] ; u ; t ; + gives 1x0 1 <=0 -1 <0 -1x0 0 <=0
@@ -18,7 +19,7 @@ x 0 < 1/2147483647 1 select 1 scale:1/2305843009213693951 ; u ; t gives 1x0 1 <=
 # 1 - 1/(2^61 - 1) is above 0
 x 0 < 1/2147483647 1 select 1 scale:1/2305843009213693951 ; u ; f ; + gives -1x0 0 <=0 1 <0 -1x0 0 <=0";
 
-/// Only the UInt and UReal variables that occur get a row `-x <= 0`, by number.
+/// Only the UInt and UReal variables that occur get a row `-x <= 0`, in the order of their numbers.
 const SIGNS: &str = "\
 # x <= y and its denial, y < x
 x y min ; iu gives
@@ -31,7 +32,7 @@ x y min ; ru ; f gives -1x0 1x1 0 <0 -1x0 0 <=0 -1x1 0 <=0
 x scale:2 3 <= embed ; uu ; t gives 1x0 -1 <=0 -1x0 0 <=0
 x scale:2 3 <= embed ; uu ; f gives -1x0 2 <=0 -1x0 0 <=0";
 
-/// One row for each comparison, in order, and none for a Boolean: b and x = y, for two Ints.
+/// One row for each comparison, in their order, and none for a Boolean: b and x = y, for two Ints.
 const ORDER: &str = "\
 lower b2 x y = and [] inf ; iib ; t ; + gives
 lower b2 x y = and [] inf ; iib ; ttt gives 1x0 -1x1 0 <=0 -1x0 1x1 0 <=0
@@ -40,7 +41,8 @@ lower b2 x y = and [] inf ; iib ; tf gives -1x0 1x1 1 <=0
 # infinity is at least each stated value of a lower goal
 lower b2 x y = and [] inf ; iib ; tf ; + gives -1x0 1x1 1 <=0";
 
-/// The stated value below the found one, or in a lower goal the found one below the stated one.
+/// The denied goal: the stated value is below the computed one; in a lower goal the computed one is
+/// below the stated one.
 const DENIED: &str = "\
 x y ; iu ; ; + gives 1x0 -1x1 1 <=0 -1x1 0 <=0
 x y ; iu gives
@@ -48,8 +50,8 @@ lower x y ; iu ; ; + gives -1x0 1x1 1 <=0 -1x1 0 <=0
 # with a UReal it stays strict
 x y ; ri ; ; + gives 1x0 -1x1 0 <0 -1x0 0 <=0";
 
-/// Where the side that would have to be smaller is infinity, there is no denied goal; where only the other side is, it is
-/// `-1 < 0`.
+/// If the smaller side would be infinity, there is no denied goal. If only the other side is
+/// infinity, it is `-1 < 0`.
 const INFINITE: &str = "\
 inf x ; u ; ; + gives
 x inf ; u ; ; + gives -1 <0
@@ -58,7 +60,7 @@ lower inf x ; u ; ; + gives -1 <0
 inf inf ; u ; ; + gives
 lower inf inf ; u ; ; + gives";
 
-/// x/2 + 2^62 - 1 <= 0 has numbers below 2^62, and its row x + 2^63 - 2 <= 0 has not.
+/// x/2 + 2^62 - 1 <= 0 has numbers below 2^62, and its row x + 2^63 - 2 <= 0 does not.
 const BOUND: &str = "\
 x scale:1/2 4611686018427387903 + 0 <= embed ; i ; ; + gives
 x scale:1/2 4611686018427387903 + 0 <= embed ; i ; t gives bits

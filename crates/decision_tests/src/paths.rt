@@ -9,7 +9,7 @@ use heylo_formula::Goal;
 use linear_form::{Ask, Taken, ask};
 use std::alloc::{AllocError, Global};
 
-/// The path with one more answer, or None where there is no question.
+/// Returns the path with one more answer, or `None` if there is no further comparison.
 pub fn extended(
     alloc: Global,
     goal: &Goal,
@@ -29,8 +29,8 @@ pub fn extended(
     }
 }
 
-/// The path with these answers to the goal's questions, a letter for each: t where the question holds, f where it fails. None where
-/// there are fewer questions.
+/// Returns the path with these answers to the goal's comparisons, a letter for each: `t` if it
+/// holds, `f` if it fails. Returns `None` if there are fewer comparisons.
 pub fn path_with(
     alloc: Global,
     goal: &Goal,

@@ -1,9 +1,9 @@
-//! What goals ask, and what they are at the end, worked out by hand.
+//! The comparisons of goals, and the values at the ends of their paths, worked out by hand.
 
 use crate::kinds::{Kind, check_texts};
 use std::alloc::AllocError;
 
-/// 0, infinity and the variables, in operators that ask nothing.
+/// 0, infinity and variables, in operators that compare nothing.
 const UNASKED: &str = "\
 # nothing is asked
 x y + gives = 1x0 1x1 0
@@ -63,7 +63,7 @@ inf inf coimply ; t gives none
 x inf cut gives = 0
 x inf cut ; t gives none";
 
-/// The question, the value where it holds, and the value where it doesn't.
+/// The comparison, the value if it holds, and the value if it fails.
 const COMPARING: &str = "\
 # y <= x
 x y cut gives -1x0 1x1 0 <=0
@@ -172,7 +172,7 @@ b3 [] gives b3
 b3 [] ; t gives = 1
 b3 [] ; f gives = 0";
 
-/// Comparisons, as brackets: 1 where they hold, else 0.
+/// Comparisons in brackets: 1 if they hold, otherwise 0.
 const COMPARISONS: &str = "\
 x y <= [] gives 1x0 -1x1 0 <=0
 x y <= [] ; t gives = 1
@@ -195,7 +195,7 @@ x y = [] ; f gives = 0
 3 2 = [] gives = 0
 x x < [] gives = 0";
 
-/// Conditions, and in which order they are asked.
+/// Conditions, and the order of their comparisons.
 const CONDITIONS: &str = "\
 # the parts of a condition are asked from the left, and only where they are needed
 b3 b4 and [] gives b3
@@ -242,7 +242,8 @@ x y min b4 [] ; tf gives = 1x0 0
 # both parts of a product are evaluated
 0 x y max * gives 1x0 -1x1 0 <=0";
 
-/// Bits comes exactly at 2^62, in a value of a node and in a difference that is compared.
+/// The result is `bits` exactly at 2^62, for a value of a node and for a difference that is
+/// compared.
 const BOUND: &str = "\
 4611686018427387903 0 + gives = 4611686018427387903
 4611686018427387904 -1 + gives bits

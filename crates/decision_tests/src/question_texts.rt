@@ -1,4 +1,4 @@
-//! Questions, and why nothing is known, as texts.
+//! Comparisons and causes as texts.
 
 use goal_answers::Cause;
 use linear_form::{Ask, Atom};
@@ -25,7 +25,7 @@ fn write_atom(atom: &Atom, text: &mut String) -> Result<(), AllocError> {
     }
 }
 
-/// Writes what is asked next, or what the stated form is at the end.
+/// Writes the next comparison, or the stated bound at the end.
 pub fn write_ask(ask: &Ask, text: &mut String) -> Result<(), AllocError> {
     match ask {
         Ask::Decide(atom) => write_atom(atom, text),
@@ -38,7 +38,7 @@ pub fn write_ask(ask: &Ask, text: &mut String) -> Result<(), AllocError> {
     }
 }
 
-/// Writes why nothing is known of a goal.
+/// Writes the cause for which a goal is not decided.
 pub fn write_cause(cause: &Cause, text: &mut String) -> Result<(), AllocError> {
     match cause {
         Cause::Depth => text.push_str("depth"),

@@ -1,10 +1,12 @@
-//! Goals of tests. Their types are looked at before they are decided, for the kinds of formulas that the tests use.
+//! Goals of tests. Before a goal is decided, its types are checked, for the kinds of formulas that
+//! the tests use.
 
 ghost use Rattle.std.specs.Prelude.{◌≡◌, ℕ, ◌<◌, ◌^◌, IsTrue, Some, true};
 ghost use Rattle.heyvl_num.specs.ExtendedNumbers.{value_of};
 ghost use Rattle.heylo_formula.specs.PlainTrees.{form_of, cond_of};
 ghost use Rattle.heylo_formula.specs.Sizes.{nodes};
-ghost use Rattle.heylo_formula.specs.Typing.{NumberType, type_of, is_well_typed, is_unsigned, constant_type, number_type, difference_type, is_bool};
+ghost use Rattle.heylo_formula.specs.Typing.{NumberType, type_of, is_well_typed, is_unsigned};
+ghost use Rattle.heylo_formula.specs.Typing.{constant_type, number_type, difference_type, is_bool};
 ghost use Rattle.heylo_formula.specs.Variables.{is_free, is_free_in};
 ghost use Rattle.heylo_formula.specs.Typing.{types_in};
 
@@ -17,7 +19,7 @@ const MOST_NODES: u64 = 536_870_912;
 
 const MOST_VARIABLES: usize = 2_147_483_648;
 
-/// The type of a variable.
+/// Returns the type of the variable `x`.
 fn type_at(types: &[Ty], x: u32) -> Ty
     ensures { result ≡ types_in types.now x }
 {
@@ -29,7 +31,7 @@ fn type_at(types: &[Ty], x: u32) -> Ty
     }
 }
 
-/// Whether the number is from 0 on, or infinity.
+/// Returns whether the number is not negative. Infinity is not.
 fn is_unsigned_number(v: &Ext) -> bool
     ensures { IsTrue result → is_unsigned (constant_type (value_of v.now)) ≡ true }
 {
@@ -39,9 +41,10 @@ fn is_unsigned_number(v: &Ext) -> bool
     }
 }
 
-/// Whether the number is a whole number from 0 on.
+/// Returns whether the number is a natural number.
 fn is_whole_number(v: &Ext) -> bool
-    ensures { IsTrue result → difference_type (constant_type (value_of v.now)) ≡ Some NumberType.int }
+    ensures { IsTrue result → difference_type (constant_type (value_of v.now))
+        ≡ Some NumberType.int }
 {
     match v {
         Ext::Fin(x) => x.num() >= 0 && x.den() == 1,
@@ -49,30 +52,28 @@ fn is_whole_number(v: &Ext) -> bool
     }
 }
 
-/// Whether the type is UInt or UReal.
 fn is_unsigned_type(ty: Ty) -> bool
     ensures { IsTrue result → is_unsigned (number_type ty) ≡ true }
 {
     matches!(ty, Ty::UInt | Ty::UReal)
 }
 
-/// Whether the type is UInt or Int.
 fn is_whole_type(ty: Ty) -> bool
     ensures { IsTrue result → difference_type (number_type ty) ≡ Some NumberType.int }
 {
     matches!(ty, Ty::UInt | Ty::Int)
 }
 
-/// Whether the type is Bool.
 fn is_bool_type(ty: Ty) -> bool
     ensures { IsTrue result → is_bool ty ≡ true }
 {
     matches!(ty, Ty::Bool)
 }
 
-/// Whether the form is of UInt or Int, for sums and products of variables and numbers.
+/// Returns whether the form is of type UInt or Int, for sums and products of variables and numbers.
 fn is_whole(types: &[Ty], form: &Form) -> bool
-    ensures { IsTrue result → difference_type (type_of (types_in types.now) (form_of form.now)) ≡ Some NumberType.int }
+    ensures { IsTrue result → difference_type (type_of (types_in types.now) (form_of form.now))
+        ≡ Some NumberType.int }
 {
     match form {
         Form::Const(v) => is_whole_number(v),
@@ -83,7 +84,7 @@ fn is_whole(types: &[Ty], form: &Form) -> bool
     }
 }
 
-/// Whether the condition is well typed, for Booleans and comparisons of whole numbers.
+/// Returns whether the condition is well typed, for Booleans and comparisons of integers.
 fn is_condition(types: &[Ty], cond: &Cond) -> bool
     ensures { IsTrue result → is_well_typed (types_in types.now) (cond_of cond.now) ≡ true }
 {
@@ -97,7 +98,8 @@ fn is_condition(types: &[Ty], cond: &Cond) -> bool
     }
 }
 
-/// Whether the form is a formula, for sums, products and choices of variables and numbers.
+/// Returns whether the form is a formula, for sums, products and selections of variables and
+/// numbers.
 fn is_formula(types: &[Ty], form: &Form) -> bool
     ensures { IsTrue result → is_unsigned (type_of (types_in types.now) (form_of form.now)) ≡ true }
 {
@@ -113,7 +115,7 @@ fn is_formula(types: &[Ty], form: &Form) -> bool
     }
 }
 
-/// Whether each variable of the form is below the count, for the forms above.
+/// Returns whether each variable of the form is below `count`, for these kinds of forms.
 #[cycle(owning)]
 fn has_own(count: usize, form: &Form) -> bool
     ensures { IsTrue result → (x : ℕ) → is_free x (form_of form.now) ≡ true → x < count }
@@ -129,7 +131,7 @@ fn has_own(count: usize, form: &Form) -> bool
     }
 }
 
-/// Whether each variable of the condition is below the count, for the conditions above.
+/// Returns whether each variable of the condition is below `count`, for these kinds of conditions.
 #[cycle(owning)]
 fn tests_own(count: usize, cond: &Cond) -> bool
     ensures { IsTrue result → (x : ℕ) → is_free_in x (cond_of cond.now) ≡ true → x < count }
@@ -144,14 +146,14 @@ fn tests_own(count: usize, cond: &Cond) -> bool
     }
 }
 
-/// Whether the form is small enough to be decided.
+/// Returns whether the form is small enough to be decided.
 fn is_small(form: &Form) -> bool
     ensures { IsTrue result → nodes (form_of form.now) < 2 ^ 29 }
 {
     form.nodes() < MOST_NODES
 }
 
-/// Decides a goal whose formulas are those of the tests; want of memory where they are none.
+/// Decides a goal. Its formulas have to be of these kinds.
 pub fn decision_of(alloc: Global, goal: &Goal) -> Result<Decision, AllocError> {
     let types = goal.vars.as_slice();
     let count = types.len();

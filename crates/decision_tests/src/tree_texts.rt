@@ -5,7 +5,7 @@ use std::alloc::{AllocError, Global};
 use test_lines::{cut, index};
 use test_texts::{multipliers_of, write_multipliers};
 
-/// The last tree; want of memory where there is none.
+/// Takes the last tree.
 fn last(trees: &mut Vec<Box<Tree>>) -> Result<Box<Tree>, AllocError> {
     match trees.pop() {
         Some(tree) => Ok(tree),
@@ -24,7 +24,7 @@ fn split(alloc: Global, trees: &mut Vec<Box<Tree>>) -> Result<(), AllocError> {
     push(alloc, Tree::Split(holds, fails), trees)
 }
 
-/// The split of a variable at a number, as `0:-3`.
+/// Reads the split of a variable at a number, such as `0:-3`.
 fn whole(alloc: Global, text: &str, trees: &mut Vec<Box<Tree>>) -> Result<(), AllocError> {
     let above = last(trees)?;
     let below = last(trees)?;
@@ -59,8 +59,9 @@ fn read_word(alloc: Global, word: &str, trees: &mut Vec<Box<Tree>>) -> Result<()
     }
 }
 
-/// A certificate: `t` is a leaf that holds plainly, `f0:1,2:1` is one with multipliers of rows, and `s` splits into the two trees
-/// that stand before it, as `i0:3` does where the variable 0 is at most 3, and where it is at least 4.
+/// Reads a certificate. `t` is a leaf without multipliers, and `f0:1,2:1` one with multipliers of
+/// rows. `s` is a comparison over the two trees before it, and `i0:3` a split over them: the
+/// variable 0 is at most 3, or at least 4.
 pub fn tree_of(alloc: Global, text: &str) -> Result<Box<Tree>, AllocError> {
     let mut trees = Vec::new(alloc);
     for word in text.split_whitespace() {
@@ -69,7 +70,7 @@ pub fn tree_of(alloc: Global, text: &str) -> Result<Box<Tree>, AllocError> {
     last(&mut trees)
 }
 
-/// How many leaves there are.
+/// Returns the number of leaves.
 pub fn leaves(tree: &Tree) -> u32 {
     match tree {
         Tree::Split(holds, fails) => leaves(holds).saturating_add(leaves(fails)),
@@ -79,7 +80,7 @@ pub fn leaves(tree: &Tree) -> u32 {
     }
 }
 
-/// The letters of the nodes, a split before its two trees.
+/// Writes the letters of the nodes, each before its two trees.
 pub fn write_letters(tree: &Tree, text: &mut String) -> Result<(), AllocError> {
     match tree {
         Tree::Split(holds, fails) => {
@@ -97,7 +98,7 @@ pub fn write_letters(tree: &Tree, text: &mut String) -> Result<(), AllocError> {
     }
 }
 
-/// The multipliers of the leaf with this number, among those that have any.
+/// Writes the multipliers of the leaf with this number, among the leaves that have multipliers.
 pub fn write_leaf(tree: &Tree, leaf: u32, text: &mut String) -> Result<(), AllocError> {
     match tree {
         Tree::Split(first, second) | Tree::Whole(_, _, first, second) => {
@@ -113,7 +114,7 @@ pub fn write_leaf(tree: &Tree, leaf: u32, text: &mut String) -> Result<(), Alloc
     }
 }
 
-/// How many leaves have multipliers.
+/// Returns the number of leaves with multipliers.
 fn certified(tree: &Tree) -> u32 {
     match tree {
         Tree::Split(holds, fails) => certified(holds).saturating_add(certified(fails)),
