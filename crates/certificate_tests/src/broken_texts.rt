@@ -1,4 +1,4 @@
-//! Texts that no list of certificates has, with the first line at fault, all by hand.
+//! Texts that no list of certificates has, with the first invalid line, worked out by hand.
 
 use cert_text::{CertStop, read_cert};
 use std::alloc::{AllocError, Global};
@@ -71,7 +71,7 @@ const TEXTS: [(&str, u32); 53] = [
     ("caesar certificate 1\ngoal 0 main\nt\nend", 4),
 ];
 
-/// Lines at the place of a goal, the second.
+/// Invalid lines in the place of a goal, in line 2.
 const GOALS: [&str; 30] = [
     "goal 00 main",
     "goal +0 main",
@@ -105,7 +105,7 @@ const GOALS: [&str; 30] = [
     "goal 0 pre:",
 ];
 
-/// Lines at the place of a tree, the third.
+/// Invalid lines in the place of a tree, in line 3.
 const NODES: [&str; 36] = [
     "",
     "f",
@@ -145,7 +145,7 @@ const NODES: [&str; 36] = [
     "goal 0 post",
 ];
 
-/// Splits of whole variables that are none, at the place of a tree in a text of version 2, the third.
+/// Invalid integer splits in the place of a tree of version 2, in line 3.
 const SPLITS: [&str; 34] = [
     "i",
     "i ",
@@ -183,7 +183,7 @@ const SPLITS: [&str; 34] = [
     "ii 0 1",
 ];
 
-/// What stands between the title and the end.
+/// Texts between the title and the end.
 const MIDDLES: [(&str, u32); 22] = [
     ("goal 0 main\nt\ngoal 0 main\nt\n", 4),
     ("goal 1 main\nt\ngoal 0 main\nt\n", 4),
@@ -209,7 +209,7 @@ const MIDDLES: [(&str, u32); 22] = [
     ("goal 0 main\nt\ngoal 1 main\ni 0 0\nt\nt\n", 5),
 ];
 
-/// Whether this line is the fault of the text.
+/// Returns whether `line` is the first invalid line of the text.
 fn is_fault(alloc: Global, text: &str, line: u32) -> bool {
     if text.len() < 0x8000_0000 {
         match read_cert(alloc, text.as_bytes()) {
@@ -248,7 +248,8 @@ fn check_lines(
     Ok(())
 }
 
-/// The first goal, a chain of such nodes with two trees and a leaf for each place that they leave open.
+/// Returns a title, the first goal, a chain of `nodes` nodes with two subtrees, and a leaf for each
+/// place that they leave open.
 fn chain(alloc: Global, title: &str, node: &str, nodes: usize) -> Result<String, AllocError> {
     let mut text = format!(in alloc; "{title}goal 0 main\n")?;
     for place in 0..nodes {

@@ -1,4 +1,4 @@
-//! Tests of the text of certificates. The crate has nothing else.
+//! Tests of the text of certificates.
 #![tactic(auto)]
 
 #[cfg(test)]

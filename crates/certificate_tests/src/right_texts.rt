@@ -1,4 +1,4 @@
-//! Texts that are read, and written again as they were.
+//! Texts that are read, and written again without a change.
 
 use cert_text::{read_cert, write_cert};
 use goal_answers::Tree;
@@ -6,7 +6,7 @@ use heylo_formula::GoalId;
 use std::alloc::{AllocError, Global};
 use std::test::Fail;
 
-/// What stands between the title and the end.
+/// Texts between the title and the end, in version 1.
 const MIDDLES: [&str; 12] = [
     "",
     "goal 0 main\nt\n",
@@ -22,7 +22,7 @@ const MIDDLES: [&str; 12] = [
     "goal 7 invariant 10\ns\nt\nt\ngoal 8 main\nt\n",
 ];
 
-/// The same of version 2.
+/// Texts between the title and the end, in version 2.
 const SPLIT_MIDDLES: [&str; 8] = [
     "goal 0 main\ni 0 0\nt\nt\n",
     "goal 0 main\ni 4294967295 4611686018427387903\nt\nf 0:1\n",
@@ -34,7 +34,7 @@ const SPLIT_MIDDLES: [&str; 8] = [
     "goal 3 ranking 2\ns\nt\ni 2 9\ns\nt\nt\nt\n",
 ];
 
-/// Whether the text is read, and written again as it was.
+/// Returns whether the text is read, and written again without a change.
 fn is_kept(alloc: Global, text: &str) -> Result<bool, AllocError> {
     if text.len() < 0x8000_0000 {
         match read_cert(alloc, text.as_bytes()) {
@@ -78,12 +78,15 @@ fn a_tree_of_a_thousand_nodes_deep_is_kept(rt: HostRuntime) -> Result<(), Fail> 
     Ok(())
 }
 
-/// Whether the tree is a question with a leaf of one multiplier and then a plain leaf.
+/// Returns whether the tree is a comparison with a leaf of one multiplier, then a leaf without
+/// multipliers.
 fn is_small_tree(tree: &Tree) -> bool {
     match tree {
         Tree::Split(holds, fails) => {
-            matches!(&**holds, Tree::Farkas(multipliers) if multipliers.as_slice() == [(3, 5)].as_slice())
-                && matches!(&**fails, Tree::Plain)
+            matches!(
+                &**holds,
+                Tree::Farkas(multipliers) if multipliers.as_slice() == [(3, 5)].as_slice()
+            ) && matches!(&**fails, Tree::Plain)
         }
         _ => false,
     }
@@ -106,12 +109,16 @@ fn the_first_tree_is_where_the_atom_holds(rt: HostRuntime) -> Result<(), Fail> {
     Ok(())
 }
 
-/// Whether the tree splits variable 6 at -2, with a plain leaf and then a leaf of one multiplier.
+/// Returns whether the tree splits the variable 6 at -2, with a leaf without multipliers, then a
+/// leaf of one multiplier.
 fn is_small_split(tree: &Tree) -> bool {
     match tree {
         Tree::Whole(6, -2, most, more) => {
             matches!(&**most, Tree::Plain)
-                && matches!(&**more, Tree::Farkas(multipliers) if multipliers.as_slice() == [(3, 5)].as_slice())
+                && matches!(
+                    &**more,
+                    Tree::Farkas(multipliers) if multipliers.as_slice() == [(3, 5)].as_slice()
+                )
         }
         _ => false,
     }
