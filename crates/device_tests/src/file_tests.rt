@@ -5,7 +5,7 @@ use std::alloc::{AllocError, Global};
 use std::test::Fail;
 use std::{env, fs, process};
 
-/// A path of the folder for such files, with the number of the process in its name.
+/// Returns a path in the folder for temporary files, with the number of the process in its name.
 fn path_of(rt: HostRuntime, name: &str) -> Result<String, Fail> {
     let alloc = rt.alloc();
     let number = process::id(rt.process());
@@ -14,7 +14,8 @@ fn path_of(rt: HostRuntime, name: &str) -> Result<String, Fail> {
     Ok(format!(in alloc; "{folder}/{name}_{number}.txt")?)
 }
 
-/// Whether a file that holds these bytes is read whole up to the limit, and is too long for a smaller one.
+/// Returns whether a file with these bytes is read as a whole up to the limit, and is too long for
+/// a smaller one.
 fn is_read(rt: HostRuntime, path: &str, bytes: &[u8]) -> Result<bool, Fail> {
     let alloc = rt.alloc();
     fs::write(&rt, path, bytes)?;
@@ -32,10 +33,10 @@ fn a_file_is_read(rt: HostRuntime) -> Result<(), Fail> {
     Ok(())
 }
 
-/// More than two reads ask for, and no multiple of what one asks for.
+/// More bytes than two reads ask for, and no multiple of the bytes of one read.
 const LENGTH: usize = 10_007;
 
-/// Bytes of which no two reads give the same.
+/// Returns bytes of which no two reads return the same.
 fn pattern(alloc: Global) -> Result<Vec<u8>, AllocError> {
     let mut bytes = Vec::with_capacity(alloc, LENGTH)?;
     for place in 0..LENGTH {
@@ -52,7 +53,7 @@ fn a_file_above_one_read_is_read_whole(rt: HostRuntime) -> Result<(), Fail> {
     Ok(())
 }
 
-/// A folder opens but can't be read.
+/// A folder can be opened and not read.
 #[test]
 fn neither_no_file_nor_a_folder_is_read(rt: HostRuntime) -> Result<(), Fail> {
     let gone = path_of(rt, "gone")?;

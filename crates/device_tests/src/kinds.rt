@@ -1,4 +1,4 @@
-//! What lines ask of devices in memory.
+//! Questions of lines about devices in memory.
 
 use crate::sinks::write_sink;
 use crate::sources::{write_source, write_sure_source};
@@ -6,14 +6,14 @@ use std::alloc::{AllocError, Global};
 use std::process::Abort;
 use test_lines::{LineKind, differences};
 
-/// What a line asks.
+/// The question of a line.
 #[derive(Clone, Copy)]
 pub enum Kind {
-    /// `files ; most ; calls ; acts`: what a source in memory gives.
+    /// `files ; most ; calls ; acts`: the results of a source in memory.
     Source,
-    /// `files ; most ; names`: what is read of a source that never fails.
+    /// `files ; most ; names`: the bytes read from a source that never fails.
     SureSource,
-    /// `room ; most ; calls ; acts`: what a sink in memory takes.
+    /// `room ; most ; calls ; acts`: the results of a sink in memory.
     Sink,
 }
 

@@ -1,4 +1,7 @@
-//! Tests of the devices: those in memory, whose calls fail where a test says so, real files and outputs. Each line of a text is a test.
+//! Tests of the devices: those in memory, whose calls fail as a test says, and real files and
+//! outputs. Each line of a text is a test.
+//!
+//! `AllocError` means that memory ran out, or that a line of a test is malformed.
 #![tactic(auto)]
 
 #[cfg(test)]

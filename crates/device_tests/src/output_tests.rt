@@ -4,7 +4,7 @@ use heyvl_io::{Cut, Sink, StdoutSink, write_all};
 use std::fmt::Display;
 use std::io;
 
-/// An output that takes at most so many bytes at a time.
+/// An output that takes at most `most` bytes at a time.
 #[derive(Clone, Copy)]
 struct Slow {
     most: usize,

@@ -1,4 +1,4 @@
-//! What sinks in memory take.
+//! Results of sinks in memory.
 
 use heyvl_io::{Cut, MemSink, write_all};
 use std::alloc::{AllocError, Global};
@@ -24,7 +24,8 @@ fn act(sink: &mut MemSink, word: &str, text: &mut String) -> Result<(), AllocErr
     }
 }
 
-/// A sink with this room, of which a write takes at most so many bytes, and these calls fail.
+/// Returns a sink with this room, of which a write takes at most `most` bytes, and these calls
+/// fail.
 fn sink_of(alloc: Global, room: &str, most: &str, calls: &str) -> Result<MemSink, AllocError> {
     let most = size(most)?;
     if most == 0 {
@@ -40,7 +41,8 @@ fn write_acts(sink: &mut MemSink, acts: &str, text: &mut String) -> Result<(), A
     Ok(())
 }
 
-/// `room ; most ; calls ; acts`: what a sink takes, of which a write takes at most so many bytes, and these calls fail.
+/// `room ; most ; calls ; acts`: writes the results of a sink of which a write takes at most `most`
+/// bytes, and these calls fail.
 pub fn write_sink(alloc: Global, asked: &str, text: &mut String) -> Result<(), AllocError> {
     let (room, rest) = cut(asked, ';');
     let (most, rest) = cut(rest, ';');

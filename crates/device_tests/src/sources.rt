@@ -1,18 +1,18 @@
-//! What sources in memory give.
+//! Results of sources in memory.
 
 use heyvl_io::{Failed, MemSource, ReadStop, Source, SureSource, read_all};
 use std::alloc::{AllocError, Global};
 use std::fmt::Write;
 use test_lines::{calls_of, cut, size, write_bytes};
 
-/// A name with its text, as `a=1`.
+/// Reads a name with its text, such as `a=1`.
 fn file_of(alloc: Global, word: &str) -> Result<(String, Vec<u8>), AllocError> {
     let (name, bytes) = cut(word, '=');
     let name = String::from_str(alloc, name)?;
     Ok((name, Vec::from_slice(alloc, bytes.as_bytes())?))
 }
 
-/// Names with their texts, as `a=1 b=2`.
+/// Reads names with their texts, such as `a=1 b=2`.
 fn files_of(alloc: Global, text: &str) -> Result<Vec<(String, Vec<u8>)>, AllocError> {
     let mut files = Vec::new(alloc);
     for word in text.split_whitespace() {
@@ -29,7 +29,7 @@ fn write_start(started: Result<(), Failed>, text: &mut String) -> Result<(), All
     })
 }
 
-/// Reads at most so many bytes, of which there are at most 8.
+/// Reads at most `most` bytes, from 1 to 8.
 fn write_read(source: &mut MemSource, most: usize, text: &mut String) -> Result<(), AllocError> {
     let mut buffer = [0u8; 8];
     if most == 0 || most > 8 {
@@ -48,7 +48,7 @@ fn write_all_read(read: &Result<Vec<u8>, ReadStop>, text: &mut String) -> Result
     }
 }
 
-/// Reads all bytes of a name up to a limit, as `f:5` says.
+/// Reads all bytes of a name up to a limit, such as `f:5`.
 fn read_up_to<F: Source>(
     alloc: Global,
     source: &mut F,
@@ -59,7 +59,7 @@ fn read_up_to<F: Source>(
     write_all_read(&read_all(alloc, source, name, size(limit)?), text)
 }
 
-/// Writes what is known of the source, by the word of it.
+/// Writes the part of the source's state that `word` names.
 fn write_state(source: &MemSource, word: &str, text: &mut String) -> Result<(), AllocError> {
     let order = source.order;
     let number = match word {
@@ -71,7 +71,7 @@ fn write_state(source: &MemSource, word: &str, text: &mut String) -> Result<(), 
     write!(text, "{number} ")
 }
 
-/// Lets the counters stand at their last value, and before it.
+/// Sets the counters to their largest value and to the one before it.
 fn count_far(source: &mut MemSource) {
     source.calls = u64::MAX;
     source.faults = u64::MAX - 1;
@@ -96,7 +96,8 @@ fn act(
     }
 }
 
-/// A source of these files, of which a read gives at most so many bytes, and these calls fail.
+/// Returns a source of these files, of which a read returns at most `most` bytes, and these calls
+/// fail.
 fn source_of(alloc: Global, files: &str, most: &str, calls: &str) -> Result<MemSource, AllocError> {
     let most = size(most)?;
     if most == 0 {
@@ -118,7 +119,8 @@ fn write_acts(
     Ok(())
 }
 
-/// `files ; most ; calls ; acts`: what a source of these files gives, of which a read gives at most so many bytes, and these calls fail.
+/// `files ; most ; calls ; acts`: writes the results of a source of these files, of which a read
+/// returns at most `most` bytes, and these calls fail.
 pub fn write_source(alloc: Global, asked: &str, text: &mut String) -> Result<(), AllocError> {
     let (files, rest) = cut(asked, ';');
     let (most, rest) = cut(rest, ';');
@@ -127,7 +129,7 @@ pub fn write_source(alloc: Global, asked: &str, text: &mut String) -> Result<(),
     write_acts(alloc, &mut source, acts, text)
 }
 
-/// A source of these files that never fails, of which a read gives at most so many bytes.
+/// Returns a source of these files that never fails, of which a read returns at most `most` bytes.
 fn sure_source_of(alloc: Global, files: &str, most: &str) -> Result<SureSource, AllocError> {
     let most = size(most)?;
     if most == 0 {
@@ -136,7 +138,8 @@ fn sure_source_of(alloc: Global, files: &str, most: &str) -> Result<SureSource, 
     Ok(SureSource::new(files_of(alloc, files)?, most))
 }
 
-/// `files ; most ; names`: what is read of a source that never fails, each name up to its limit.
+/// `files ; most ; names`: writes the bytes read from a source that never fails, each name up to
+/// its limit.
 pub fn write_sure_source(alloc: Global, asked: &str, text: &mut String) -> Result<(), AllocError> {
     let (files, rest) = cut(asked, ';');
     let (most, names) = cut(rest, ';');
