@@ -1,11 +1,11 @@
-//! What calls of the tool come to, worked out by hand. The report on the coin has 28 bytes.
+//! Outcomes of calls of `run_tool`, worked out by hand. The report on the coin has 28 bytes.
 
 use crate::calls::{sink_of, source_of, write_run};
 use crate::kinds::{Kind, check_texts};
 use heyvl_tool::FILE_LIMIT;
 use std::alloc::AllocError;
 
-/// Words with the command that they ask for, its file and its second text.
+/// Arguments with the command that they ask for, its file and its second file.
 const ASKED: &str = "\
 verify,help gives verify [help] [none]
 print,a b=c gives print [a b=c] [none]
@@ -25,7 +25,8 @@ fn words_name_a_command_and_its_files(rt: HostRuntime) -> Result<(), AllocError>
     check_texts(&rt, Kind::Words, &[ASKED])
 }
 
-/// The coin's file is read by one call of 61 bytes and one that finds the end; each text is found, read once, and read to its end.
+/// The coin's file is read by one call of 61 bytes and one that finds the end. Each file is
+/// started, read once, and read to its end.
 const READ_FAULTS: &str = "\
 verify,f ; coin ; 64 ; 0 ; 64 ;  gives 5 Read(0) 0 11 Some(1) [read fault|]
 verify,f ; coin ; 64 ; 1 ; 64 ;  gives 5 Read(0) 0 11 Some(1) [read fault|]
@@ -37,8 +38,8 @@ check,f,c ; coin ; 64 ; 3 ; 64 ;  gives 5 Read(1) 0 11 Some(2) [read fault|]
 check,f,c ; coin ; 64 ; 4 ; 64 ;  gives 5 Read(1) 0 11 Some(2) [read fault|]
 check,f,c ; coin ; 64 ; 5 ; 64 ;  gives 5 Read(1) 0 11 Some(2) [read fault|]";
 
-/// Over reads of seven bytes the coin's 61 take calls 1 to 9, and call 10 finds the end; the certificate's 43 take calls 12 to 18, and call 19
-/// finds the end.
+/// With reads of seven bytes, calls 1 to 9 return the coin's 61 bytes, and call 10 finds the end;
+/// calls 12 to 18 return the certificate's 43 bytes, and call 19 finds the end.
 const SHORT_READS: &str = "\
 check,f,c ; coin ; 7 ; 0 ; 64 ;  gives 5 Read(0) 0 11 Some(1) [read fault|]
 check,f,c ; coin ; 7 ; 1 ; 64 ;  gives 5 Read(0) 0 11 Some(1) [read fault|]
@@ -70,7 +71,7 @@ verify,f ; coin ; 64 ;  ; 28 ; 0 gives 6 Write 1 0 Some(1) []
 verify,f ; coin ; 64 ;  ; 5 ; 3 gives 6 Write 1 15 Some(1) [coin: verified|]
 print,f ; close coin ; 64 ;  ; 8 ; 2 gives 6 Write 0 16 Some(1) [coproc coin() ->]";
 
-/// Each byte of the report may be the last.
+/// Each byte of the report may be the last one.
 const BYTES: &str = "\
 verify,f ; coin ; 64 ;  ; 1 ; 0 gives 6 Write 1 0 Some(1) []
 verify,f ; coin ; 64 ;  ; 1 ; 1 gives 6 Write 1 1 Some(1) [c]
@@ -102,7 +103,8 @@ verify,f ; coin ; 64 ;  ; 1 ; 26 gives 6 Write 1 26 Some(1) [coin: verified|1 pr
 verify,f ; coin ; 64 ;  ; 1 ; 27 gives 6 Write 1 27 Some(1) [coin: verified|1 procedures]
 verify,f ; coin ; 64 ;  ; 1 ; 28 gives 0 Nothing 1 28 Some(1) [coin: verified|1 procedures|]";
 
-/// The file has 93 bytes and its certificate, which splits a whole variable, 95: each is found, read twice, and read to its end.
+/// The file has 93 bytes, and its certificate, with an integer split, has 95. Each file is started,
+/// read twice, and read to its end.
 const SPLITS: &str = "\
 verify,f ; gap ; 64 ;  ; 64 ;  gives 0 Nothing 1 27 Some(1) [gap: verified|1 procedures|]
 check,f,c ; gap ; 64 ;  ; 64 ;  gives 0 Nothing 1 27 Some(2) [gap: verified|1 procedures|]
@@ -114,7 +116,7 @@ check,f,c ; gap ; 64 ;  ; 1 ; 0 gives 6 Write 1 0 Some(2) []
 check,f,c ; gap ; 64 ;  ; 1 ; 13 gives 6 Write 1 13 Some(2) [gap: verified]
 check,f,c ; gap ; 64 ;  ; 1 ; 26 gives 6 Write 1 26 Some(2) [gap: verified|1 procedures]";
 
-/// Bounds from below give no answers; `refute` gives those of `verify`, also where the sink fails.
+/// Lower bounds have no answers. `refute` has those of `verify`, even if the sink fails.
 const BOUNDS: &str = "\
 omega,f,two,j ; two ; 64 ;  ; 64 ;  gives 0 Nothing 0 18 Some(1) [two: omega: holds|]
 omega,f,j,two ; two ; 64 ;  ; 64 ;  gives 3 Shape 0 18 Some(1) [not an omega pair|]
@@ -141,7 +143,7 @@ fn calls_over_failing_devices(rt: HostRuntime) -> Result<(), AllocError> {
     )
 }
 
-/// The second text is read, and may be too long, before a fault of the file is told.
+/// The second file is read, and may be too long, before an error of the first one is reported.
 #[test]
 fn long_certificates_are_refused(rt: HostRuntime) -> Result<(), AllocError> {
     let alloc = rt.alloc();

@@ -1,4 +1,4 @@
-//! Calls of the tool over devices in memory, and what words ask for.
+//! Calls of `run_tool` over devices in memory, and the requests of arguments.
 
 use heyvl_io::{MemSink, MemSource};
 use heyvl_tool::{Files, Outcome, Settings, run_tool, settings};
@@ -8,14 +8,15 @@ use test_lines::{calls_of, cut, size, write_bytes};
 
 const COIN: &str = "coproc coin() -> (b: Bool) pre 1/2 post [b] { b = flip(1/2) }";
 
-/// The coin, written closely.
+/// The coin with few spaces.
 const CLOSE_COIN: &str = "coproc coin()->(b:Bool)pre 0.50 post[b]{b=flip(1/2);}";
 
-/// A coin that is thrown until it shows heads, with a bound on its turns and one for each number of them.
+/// A coin that is flipped until it shows heads, with a bound on its iterations, and a lower bound
+/// for each number of iterations.
 const TWO: &str =
     "@wlp proc two() -> (d: Bool) pre 1 post [d] { d = false @invariant(1) @ranking(1, ite(d, 0, 2)) while !d { d = flip(1/2) } } coproc u() -> () pre 2 proc j(d: Bool, m: UInt) -> () pre ite(d, 1, ite(m == 0, 0, 1/2))";
 
-/// A coin whose bound is too low, so that its first throw passes it.
+/// A coin whose bound is too low, so that its first flip exceeds it.
 const LOW_COIN: &str = "coproc coin() -> (b: Bool) pre 1/3 post [b] { b = flip(1/2) }";
 
 /// A script of one step.
@@ -24,11 +25,11 @@ const ONE_STEP: &str = "steps 1\n";
 /// The certificate of the coin.
 const COIN_CERT: &str = "caesar certificate 1\ngoal 0 main\nf 0:1\nend\n";
 
-/// A goal that needs a split of a whole variable.
+/// A goal that needs an integer split.
 const GAP: &str =
     "coproc gap(x: Int, y: Int) -> () pre ite(y <= 2*x && y <= 2 - 2*x && 1 <= y, 0, 1) post 1 { }";
 
-/// Its certificate.
+/// The certificate of this goal.
 const GAP_CERT: &str =
     "caesar certificate 2\ngoal 0 main\ns\ns\ns\ni 0 0\nf 0:1 2:1 3:2\nf 1:1 2:1 3:2\nf 3:1\nf 2:1\nf 1:1\nend\n";
 
@@ -43,7 +44,8 @@ fn file_named(name: &str) -> &'static str {
     }
 }
 
-/// What the second text holds: a script for `refute`, and a certificate for every other command.
+/// Returns the bytes of the second file: a script for `refute`, a certificate for every other
+/// command.
 fn second_of(words: &str, file: &str) -> &'static str {
     if words.starts_with("refute") {
         ONE_STEP
@@ -54,7 +56,7 @@ fn second_of(words: &str, file: &str) -> &'static str {
     }
 }
 
-/// The words of a text, with commas between them.
+/// Reads arguments, with commas between them.
 pub fn words_of(alloc: Global, text: &str) -> Result<Vec<String>, AllocError> {
     let mut words = Vec::new(alloc);
     for word in text.split(',') {
@@ -68,8 +70,8 @@ fn file_of(alloc: Global, name: &str, bytes: &[u8]) -> Result<(String, Vec<u8>),
     Ok((name, Vec::from_slice(alloc, bytes)?))
 }
 
-/// A source whose names `f` and `c` hold these bytes, of which a read gives at most so many, and these calls fail; want of memory where it
-/// would give none.
+/// Returns a source whose names `f` and `c` have these bytes, of which a read returns at most
+/// `most` bytes, at least 1, and these calls fail.
 pub fn source_of(
     alloc: Global,
     file: &[u8],
@@ -86,7 +88,7 @@ pub fn source_of(
     Ok(MemSource::new(files, most, fail))
 }
 
-/// A sink of which a write takes at most so many bytes, and these calls fail; want of memory where it would take none.
+/// Returns a sink of which a write takes at most `most` bytes, at least 1, and these calls fail.
 pub fn sink_of(alloc: Global, most: usize, fail: Vec<u64>) -> Result<MemSink, AllocError> {
     if most == 0 {
         return Err(AllocError);
@@ -94,7 +96,8 @@ pub fn sink_of(alloc: Global, most: usize, fail: Vec<u64>) -> Result<MemSink, Al
     MemSink::new(alloc, 64, most, fail)
 }
 
-/// Writes the status, the fault, how many answers there are, how many bytes were written, how many texts were read, and the bytes.
+/// Writes the status, the fault, the number of answers, the number of bytes written, the number of
+/// files read, and the bytes.
 fn write_outcome(
     outcome: &Outcome,
     source: &MemSource,
@@ -110,7 +113,7 @@ fn write_outcome(
     write_bytes(&sink.bytes, text)
 }
 
-/// Calls the tool, and writes what it comes to.
+/// Calls `run_tool`, and writes its outcome.
 pub fn write_run(
     alloc: Global,
     words: &str,
@@ -123,8 +126,9 @@ pub fn write_run(
     write_outcome(&outcome, source, sink, text)
 }
 
-/// `words ; file ; most ; calls ; most ; calls`: what the tool comes to over a file and a second text, where a read gives at most so many
-/// bytes, these calls of the source fail, a write takes at most so many bytes, and these writes fail.
+/// `words ; file ; most ; calls ; most ; calls`: writes the outcome of `run_tool` for a file and a
+/// second file. A read returns at most the first `most` bytes, and the first `calls` of the source
+/// fail; a write takes at most the second `most` bytes, and the second `calls` fail.
 pub fn write_call(alloc: Global, asked: &str, text: &mut String) -> Result<(), AllocError> {
     let (words, rest) = cut(asked, ';');
     let (file, rest) = cut(rest, ';');
@@ -138,7 +142,7 @@ pub fn write_call(alloc: Global, asked: &str, text: &mut String) -> Result<(), A
     write_run(alloc, words, &mut source, &mut sink, text)
 }
 
-/// The word of a command.
+/// Returns the name of a command.
 fn command(settings: &Settings) -> &'static str {
     match settings {
         Settings::Verify(_) => "verify",
@@ -163,7 +167,7 @@ fn write_settings(settings: &Settings, text: &mut String) -> Result<(), AllocErr
     }
 }
 
-/// `words`: the command that they ask for, its file and its second text.
+/// `words`: writes the command that these arguments ask for, its file and its second file.
 pub fn write_asked(alloc: Global, asked: &str, text: &mut String) -> Result<(), AllocError> {
     match settings(alloc, &words_of(alloc, asked)?) {
         Ok(settings) => write_settings(&settings, text),

@@ -1,16 +1,16 @@
-//! What lines ask of the top call.
+//! Questions of lines about `run_tool`.
 
 use crate::calls::{write_asked, write_call};
 use std::alloc::{AllocError, Global};
 use std::process::Abort;
 use test_lines::{LineKind, differences};
 
-/// What a line asks.
+/// The question of a line.
 #[derive(Clone, Copy)]
 pub enum Kind {
-    /// `words ; file ; most ; calls ; most ; calls`: what a call of the tool comes to.
+    /// `words ; file ; most ; calls ; most ; calls`: the outcome of a call.
     Call,
-    /// `words`: what they ask for.
+    /// `words`: the command that these arguments ask for.
     Words,
 }
 

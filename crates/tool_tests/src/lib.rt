@@ -1,4 +1,7 @@
-//! Tests of the top call over the devices in memory, whose calls fail where a test says so. Each line of a text is a test.
+//! Tests of `run_tool` over the devices in memory, whose calls fail as a test says. Each line of a
+//! text is a test.
+//!
+//! `AllocError` means that memory ran out, or that a line of a test is malformed.
 #![tactic(auto)]
 
 #[cfg(test)]
