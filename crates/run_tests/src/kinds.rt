@@ -1,16 +1,16 @@
-//! What lines ask of `run`.
+//! Questions of lines about `run`.
 
 use crate::runs::{write_failure, write_run};
 use std::alloc::{AllocError, Global};
 use std::process::Abort;
 use test_lines::{LineKind, differences};
 
-/// What a line asks.
+/// The question of a line.
 #[derive(Clone, Copy)]
 pub enum Kind {
-    /// `file ; procedure ; script`: what its run comes to.
+    /// `file ; procedure ; script`: the result of its run.
     Run,
-    /// `calls`: what a run of the coin comes to where these calls of the source fail.
+    /// `calls`: the result of a run of the coin if these calls of the source fail.
     Failure,
 }
 

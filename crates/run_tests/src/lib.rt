@@ -1,4 +1,7 @@
-//! Tests of runs by a script, on the top call over the devices in memory. Each line of a text is a test.
+//! Tests of runs under a script, by `run_tool` over the devices in memory. Each line of a text is a
+//! test.
+//!
+//! `AllocError` means that memory ran out, or that a line of a test is malformed.
 #![tactic(auto)]
 
 #[cfg(test)]

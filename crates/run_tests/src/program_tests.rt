@@ -1,9 +1,10 @@
-//! What runs come to: sums, or what stops them, worked out by hand.
+//! Results of runs: sums, or what stops them, worked out by hand.
 
 use crate::kinds::{Kind, check_texts};
 use std::alloc::AllocError;
 
-/// Files, procedures and scripts, with a bar for each line feed, and the status and the text that follow.
+/// Files, procedures and scripts, with a bar for each line feed, and the status and the text of the
+/// result.
 const SUMS: &str = "\
 geo ; geo ; steps 7|set init_c 0| gives 0 [post 0|reward 0|running 1/2|loop 1 turns 3/2|]
 geo ; geo ; steps 11|set init_c 0| gives 0 [post 1/4|reward 0|running 1/4|loop 1 turns 7/4|]
@@ -45,7 +46,8 @@ fn runs_come_to_their_sums(rt: HostRuntime) -> Result<(), AllocError> {
     check_texts(&rt, Kind::Run, &[SUMS])
 }
 
-/// Runs that come to the same configuration are one: 2^200 runs are two at most. Rewards and numbers of decisions keep runs apart.
+/// Runs that reach the same configuration are merged: 2^200 runs are two at most. Rewards and
+/// numbers of decisions keep runs apart.
 const MERGED: &str = "\
 coins ; coins ; steps 400| gives 0 [post 0|reward 0|running 1|loop 1 turns 200|]
 parts ; parts ; steps 1| gives 0 [post 0|reward 0|running 1|]
@@ -58,7 +60,8 @@ fn merged_runs_come_to_their_sums(rt: HostRuntime) -> Result<(), AllocError> {
     check_texts(&rt, Kind::Run, &[MERGED])
 }
 
-/// The most outcomes of a step, 65,536, which come to 256 configurations, and the longest list, which one draw more would pass.
+/// The largest number of outcomes of a step, 65,536, which are merged to 256 configurations, and
+/// the longest list, which one draw more would exceed.
 const LONG: &str = "\
 many ; many ; steps 5| gives 0 [post 0|reward 0|running 1|loop 1 turns 3|]
 many ; many ; steps 6| gives 0 [post 0|reward 0|running 1|loop 1 turns 3|]

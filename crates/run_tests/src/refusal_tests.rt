@@ -1,12 +1,12 @@
-//! What is refused before a run begins, and in which order, worked out by hand.
+//! Refusals before a run begins, and their order, worked out by hand.
 
 use crate::kinds::{Kind, check_texts};
 use crate::runs::{source_of, write_refused};
 use heyvl_tool::FILE_LIMIT;
 use std::alloc::AllocError;
 
-/// A file with a fault comes before a script with one, and that before a procedure that isn't there, and that before one that is no
-/// program.
+/// An error of the file is reported before one of the script, this one before a procedure that does
+/// not exist, and this one before a procedure that is no program.
 const REFUSALS: &str = "\
 cut off ; coin ; stop gives 3 [1:13: fault 4: unexpected token or end of file|]
 unknown ; coin ; stop gives 3 [1:20: fault 10: unknown name|]
@@ -25,7 +25,7 @@ fn refusals_come_in_their_order(rt: HostRuntime) -> Result<(), AllocError> {
     check_texts(&rt, Kind::Run, &[REFUSALS])
 }
 
-/// Each text is found, read once, and read to its end.
+/// Each file is started, read once, and read to its end.
 const FAILURES: &str = "\
 0 gives Read(0) Some(1) 5 [read fault|]
 1 gives Read(0) Some(1) 5 [read fault|]
@@ -39,7 +39,7 @@ fn either_text_may_fail(rt: HostRuntime) -> Result<(), AllocError> {
     check_texts(&rt, Kind::Failure, &[FAILURES])
 }
 
-/// The script is read, and may be too long, before a fault of the file is told.
+/// The script is read, and may be too long, before an error of the file is reported.
 #[test]
 fn a_long_script_is_refused(rt: HostRuntime) -> Result<(), AllocError> {
     let alloc = rt.alloc();
