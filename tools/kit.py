@@ -107,6 +107,25 @@ def stamped_once(stamp):
     return call
 
 
+@functools.lru_cache(maxsize=None)
+def has_statements():
+    """Returns whether the kit builds libraries that hold statements alone, which have a quarter of the bytes of those with proofs."""
+    rtlib = module()
+    return all(hasattr(rtlib, name) for name in ("help_of", "libraries_keep")) and "--statements" in rtlib.help_of("build")
+
+
+def build(crate, jobs):
+    """Proves the crate and puts its library, with the kit's stamp, into its folder; returns the status.
+
+    A kit that builds libraries of statements keeps nothing for a second proof of the same crate, so that is from nothing.
+    """
+    words = ["--jobs", str(jobs)]
+    if has_statements():
+        module().libraries_keep = lambda: False
+        words.append("--statements")
+    return crate.build_rlib(words, False)
+
+
 def opened(names):
     """Returns the kit's crates for `names` and those below them, by name, the lowest first."""
     rtlib, known = module(), {}
