@@ -141,8 +141,8 @@ def one_line(text):
 
 
 def read_text(path, name=None):
-    """Returns the text of a file, each byte of it; a file that is too long for the program is refused in its words. A
-    name may be given that is shown instead of the path."""
+    """Returns the text of a file, each byte of it; a file that is too long for the program is refused with the program's
+    message. A name may be given that is shown instead of the path."""
     try:
         with open(path, "rb") as file:
             data = file.read(LONGEST + 1)
@@ -154,7 +154,7 @@ def read_text(path, name=None):
 
 
 def replace(name, text):
-    """Puts a text in the place of a file, at once and whole; a file that may not be written stays."""
+    """Replaces the contents of a file by a text in one step; a file that may not be written stays."""
     path, new = os.path.realpath(name), None
     try:
         with open(path, "r+b"):
@@ -172,7 +172,7 @@ def replace(name, text):
 
 
 def fault(output):
-    """Returns the line, the column and the text of the fault that an output consists of, or None."""
+    """Returns the line, the column and the text of the error that an output consists of, or None."""
     found = FAULT.fullmatch(output)
     return (int(found[1]), int(found[2]), found[3]) if found else None
 

@@ -91,7 +91,7 @@ def trees(text):
 
 
 def fault(text):
-    """The number of the line at which a text is at fault, or None."""
+    """Returns the number of the first invalid line of a text, or None."""
     try:
         trees(text)
     except Fault as fault_of_text:

@@ -1,7 +1,7 @@
 """Makes the goals of a HeyVL file, by what statements mean and by the encodings in docs/LANGUAGE.md.
 
 A body is read forward: what follows a statement is a function of the state, which gives each visible variable its value under its name.
-Each choice becomes a new constant where it is read, so what follows a draw has choices of its own for each value."""
+Each choice becomes a new constant where it is read, so what follows a draw has separate choices for each value."""
 import functools
 from fractions import Fraction
 
@@ -9,7 +9,7 @@ import heyvl
 
 
 class Maker:
-    """Makes what expressions and statements are worth. A subclass has the operators on values, each of which has a `type`."""
+    """Builds the values of expressions and the pre-expectations of statements. A subclass has the operators on values, each of which has a `type`."""
 
     def __init__(self, file, is_upper, is_ranking=False):
         self.file, self.is_upper, self.is_ranking = file, is_upper, is_ranking
@@ -35,14 +35,14 @@ class Maker:
         return functools.reduce(self.greatest if self.is_upper else self.least, values)
 
     def worth(self, block, state, follows):
-        """What statements are worth in a state, with what follows them."""
+        """Returns the pre-expectation of statements in a state; `follows` is what follows them."""
         if not block:
             return follows(state)
         (kind, *parts), rest = block[0], lambda after: self.worth(block[1:], after, follows)
         return getattr(self, kind + "_worth")(state, rest, *parts)
 
     def inner(self, block, state, rest):
-        """What a block is worth, whose own variables are not visible after it."""
+        """Returns the pre-expectation of a block, whose variables are not visible after it."""
         return self.worth(block, state, lambda after: rest({name: after[name] for name in state}))
 
     def put(self, state, targets, values):
@@ -96,15 +96,15 @@ class Maker:
         return (self.greatest if self.is_ranking or mark == "\\cup" else self.least)(first, second)
 
     def scaled(self, weight, part):
-        """The worth of a part, times its weight."""
+        """Returns the value of a part, times its weight."""
         return self.product(self.number(weight, "UReal"), part)
 
     def bound(self, worth, count):
-        """A worth in which so many choices are made."""
+        """Returns a value in which `count` choices are made."""
         return worth
 
     def known(self, bound, count, claimed, wanted):
-        """What a call or a loop is worth, which is its bound where for all the values that it gives, so many, its claim shows what is wanted."""
+        """Returns the pre-expectation of a call or a loop: its bound, if its claim implies what is wanted for all of the `count` values that it gives."""
         if self.is_upper:
             return self.greatest(bound, self.bound(self.covalidated(self.coimplied(claimed, wanted)), count))
         return self.least(bound, self.bound(self.validated(self.implied(claimed, wanted)), count))
@@ -117,7 +117,7 @@ class Maker:
         return self.known(pre, len(outputs), post, rest(self.put(state, targets, outputs.values())))
 
     def while_worth(self, state, rest, rules, guard, block):
-        """The worth of a loop by its copies."""
+        """Returns the pre-expectation of a loop by its copies."""
         copies, invariant = rules.get("k_induction", [("number", 1, "UInt"), *rules.get("invariant", [])])
 
         def turned(copy, after):
@@ -137,7 +137,7 @@ class Maker:
         return self.known(bound, len(new), claimed, met(int(copies[1]), at))
 
     def forgotten(self, rest, after):
-        """The worth of what follows a last copy, which is assumed away."""
+        """Returns the pre-expectation after a last copy, which is assumed away."""
         test = self.applied("?", self.truth(self.is_upper))
         return (self.coimplied if self.is_upper else self.implied)(test, rest(after))
 
@@ -193,7 +193,7 @@ def loops_of(block, scope):
 
 def goals(make, file, procedure):
     """The goals of a procedure with a body, in the order of docs/CERTIFICATES.md: the kind of each, the number of its loop or 0, and a
-    function that gives its maker, whether its stated value has to be the greater one, and its stated and its found value.
+    function that gives its maker, whether its stated bound has to be the larger value, and its stated bound and its computed value.
     `make(is_upper, kind)` gives a maker, whose `visible` gives the state of a scope, a list of names, types and places."""
     heads = [(x, type_name, x) for x, type_name in procedure.inputs + procedure.outputs]
     loops = list(enumerate(loops_of(procedure.body, heads), 1))

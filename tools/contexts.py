@@ -129,7 +129,7 @@ class Context(typing.NamedTuple):
         return self.merged(test, self.after(left), self.after(right)).blurred(not self.is_own_choice(mark))
 
     def is_own_choice(self, mark):
-        """Whether the scheduler chooses at an `if` with this mark."""
+        """Returns whether the scheduler chooses at an `if` with this symbol."""
         return mark == ("\\cup" if self.is_upper else "\\cap")
 
     def merged(self, test, one, two):

@@ -1,4 +1,4 @@
-"""Works out what a procedure is worth in a state, with the choices that a report shows for it, and by which ends it comes to that.
+"""Computes the pre-expectation of a procedure in a state, with the choices that a report shows for it, and the ends of runs that contribute to it.
 
 Choices are numbered as reports number them: all ways through the body in their order, also those that aren't taken."""
 import re

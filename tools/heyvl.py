@@ -6,12 +6,12 @@ A node is a tuple that begins with its kind. The statements, of which a `var` is
   ("call", targets, name, arguments), ("any", names), ("reward", expression), ("check", word, expression), ("validate", word),
   ("if", [(guard, block), ..], block), ("pick", mark, block, block), ("while", {rule: expressions}, guard, block)
 
-The expressions, where a mark is that of a binary operator:
+The expressions, where `mark` is the symbol of a binary operator:
 
   ("number", fraction, type), ("truth", bool), ("infinity",), ("variable", name), ("!", a), ("negative", a), ("~", a), ("[", a),
   ("?", a), ("ite", a, b, c), ("bind", type, name, a), (mark, a, b)
 
-Each node and each block has its places in the text: `start`, that of its first character, and `end`, that behind its last one.
+Each node and each block has its places in the text: `start`, that of its first character, and `end`, that after its last one.
 """
 import re
 import sys
@@ -44,7 +44,7 @@ FAULTS = {
 
 
 class Fault(Exception):
-    """A fault of docs/LANGUAGE.md: its number, and its place in the text."""
+    """An error of docs/LANGUAGE.md: its number, and its place in the text."""
 
     def __init__(self, number, place):
         super().__init__(number, place)
@@ -361,7 +361,7 @@ def literal(expression):
 
 
 def uniform(first, last):
-    """The parts of a draw of whole numbers between two literals, or none."""
+    """Returns the parts of a draw of integers between two literals, or none."""
     first, last = literal(first), literal(last)
     if None in (first, last) or first.denominator * last.denominator != 1:
         return []

@@ -1,4 +1,4 @@
-"""Spoils files, scripts and certificates, and sees how the program answers them; of certificates also by a reader of its own."""
+"""Spoils files, scripts and certificates, and checks how the program answers them; certificates are also read by a separate reader."""
 import os
 import re
 import resource
@@ -10,7 +10,7 @@ from concurrent.futures import ThreadPoolExecutor
 import certificates
 import splits
 
-# What a call may take of a processor, and what is told of it, in seconds.
+# The processor time that a call may take, and the time from which on it is reported, in seconds.
 SECONDS = 300
 SLOW = 10
 
@@ -41,7 +41,7 @@ PIECES = [
 
 
 def spoiled(writer, text):
-    """A text with up to four pieces removed, doubled, moved, turned or put in."""
+    """Returns a text with up to four changes: pieces removed, doubled, moved or inserted, the end cut off, or a bit flipped."""
     for _ in range(writer.randint(1, 4)):
         at, to = sorted(writer.randint(0, len(text)) for _ in range(2))
         to = min(to, at + writer.choice([1, 2, 8, 64, 1024]))
@@ -65,7 +65,7 @@ def spoiled(writer, text):
 
 
 def pairs(folder):
-    """The files of a folder that hold pairs of procedures, each with the words that ask for them: NAME.PROC.OTHER.omega stands for a pair of NAME.heyvl."""
+    """Returns the files of a folder that hold pairs of procedures, each with the arguments for its pairs: NAME.PROC.OTHER.omega names a pair of NAME.heyvl."""
     found = {}
     for name in sorted(os.listdir(folder)):
         file, *words = name.split(".")
@@ -120,14 +120,14 @@ class Hostile:
         return None if 1 <= line <= len(lines) and 1 <= column <= len(lines[line - 1]) + 1 else "a place outside the file"
 
     def is_told(self, name, output):
-        """Whether the output tells the line at which certificates are at fault, where they are."""
+        """Returns whether the output names the first invalid line of certificates, if they have one."""
         with open(os.path.join(self.folder, name), "rb") as file:
             text = file.read()
         told = LINE.fullmatch(output)
         return len(text) > LONGEST or certificates.fault(text) == (int(told[1]) if told else None)
 
     def shown(self, words):
-        """The words of a call, and the texts of its files."""
+        """Returns the arguments of a call, and the texts of its files."""
         texts = []
         for word in words[1:]:
             if os.path.exists(os.path.join(self.folder, word)):
@@ -176,7 +176,7 @@ class Hostile:
         self.called(calls)
 
     def of_pair(self, number, writer, text, pairs):
-        """Calls the commands on pairs of procedures, each with its words, on a spoiled file that holds them."""
+        """Calls the commands on pairs of procedures, each with its arguments, on a spoiled file that holds them."""
         bad = spoiled(writer, text)
         broken = self.put("%d.pair.heyvl" % number, bad)
         self.called([((command, broken, first, second), bad) for command, first, second in pairs])

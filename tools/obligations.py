@@ -4,7 +4,7 @@ A loop and a call are *summaries*: what precedes one needs its bound alone, an i
 alone, an invariant or a post. So the code of an obligation begins at the start of the body, at the start of an iteration, after a loop or
 after a call, and it ends at the next summaries, at the end of the iteration or at the end of the body.
 
-Where a summary is met in certain states only, its obligations are claimed for these states only, which a `Context` describes. So the
+Where a summary is reached in certain states only, its obligations are claimed for these states only, which a `Context` describes. So the
 procedure is verified exactly where its obligations are, unless `is_exact` is false: after an `assert` or a `\\cap` of a coproc, and after
 draws, rewards, a `coassert` or a `\\cup` of a proc, obligations suffice and need not be necessary.
 
@@ -343,7 +343,7 @@ class Decomposition:
         self.fill(found, code, items, visible, False)
 
     def at_most_one(self):
-        """Adds the claims that the formulas of a weak proc are at most 1."""
+        """Adds the claims that the formulas of a proc with `@wlp` are at most 1."""
         procedure = self.procedure
         clauses = [("pre", self.place_of("pre"), procedure.pres, self.types), ("post", self.place_of("post"), procedure.posts, self.types)]
         clauses += [(f"invariant of loop {loop.number}", loop.start, [invariant_of(loop)], self.scopes[loop.number]) for loop in self.loops]
@@ -367,7 +367,7 @@ class Decomposition:
 
 
 def take_apart(source, procedures):
-    """Returns the obligations of procedures with bodies, in the order of the text, each with a name of its own."""
+    """Returns the obligations of procedures with bodies, in the order of the text, each with a distinct name."""
     found = [o for procedure in procedures if procedure.body is not None for o in Decomposition(source, procedure).obligations()]
     taken = set(source.words)
     for obligation in found:

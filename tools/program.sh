@@ -13,12 +13,12 @@ is_built() {
         state_of crates/caesar/out/caesar crates.txt $folders | cmp -s - "$out/built"
 }
 
-# What the program writes where the words are no command. It stands in a case, which the gate holds against the program.
+# What the program writes if the arguments are not a valid command. The text is in a test case, which the full check compares with the program.
 usage_line() {
     sed -n '/^usage: caesar /{p;q;}' "$top/tests/cases/words.cases"
 }
 
-# Whether a usage line tells that the words behind it are no command: it has each command with its arguments, in capitals, between bars.
+# Whether the arguments after a usage line are not a valid command, by that line: it has each command with its arguments, in capitals, between bars.
 is_no_command() {
     forms=${1#usage: caesar }
     shift
@@ -37,7 +37,7 @@ is_no_command() {
     return 0
 }
 
-# Ends as the program would where the words are no command.
+# Ends as the program would if the arguments are not a valid command.
 answer_usage() {
     usage=$(usage_line)
     if [ -n "$usage" ] && is_no_command "$usage" "$@"; then

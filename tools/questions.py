@@ -1,4 +1,4 @@
-"""Formulas of goals, the questions that compare them in a state, and the sums of rows that show that no state gets somewhere, by
+"""Formulas of goals, the comparisons on which their values depend, and the sums of rows that show that no state takes a path, by
 docs/CERTIFICATES.md.
 
 A linear form is a dict that gives the number of each variable its factor, none of which is 0; the constant is that of CONSTANT. A value is a
@@ -16,7 +16,7 @@ LAZY = ("ite", "[", "?", "&&", "||")
 
 
 class TooLarge(Exception):
-    """A goal, or a number of one, that is too large."""
+    """A goal that exceeds a limit, or a number of one that overflows."""
 
 
 class Formula(typing.NamedTuple):
@@ -33,7 +33,7 @@ class Formula(typing.NamedTuple):
 
 
 class Question(typing.NamedTuple):
-    """The next question, which is a Bool's number or, where that is None, whether a form is at most 0 or below 0, and what is to be read then
+    """The next comparison, which is a Bool's number or, where that is None, whether a form is at most 0 or below 0, and what is to be read then
     where it holds and where it is denied."""
 
     number: typing.Optional[int]
@@ -43,7 +43,7 @@ class Question(typing.NamedTuple):
     denied: Formula
 
     def inside(self, node, at):
-        """The same question, asked by the part of a node."""
+        """Returns the same comparison, made by the part of a node."""
         sides = [node._replace(parts=(*node.parts[:at], side, *node.parts[at + 1 :])) for side in (self.held, self.denied)]
         return self._replace(held=sides[0], denied=sides[1])
 
@@ -127,7 +127,7 @@ class Maker(conditions.Maker):
         return self.node("*", join(a.type, b.type), a, b)
 
     def scaled(self, weight, part):
-        """A weight is no node of its own."""
+        """A weight is no separate node."""
         found = super().scaled(weight, part)
         return found._replace(size=found.size - 1)
 
@@ -178,7 +178,7 @@ def is_constant(form):
 
 
 def asked(a, b, is_strict, held, denied, bools):
-    """What is read of `held` where a is at most b, or below it, and else of `denied`; a question where the finite numbers leave it open."""
+    """Returns what is read of `held` if a is at most b, or below it, and otherwise of `denied`; a comparison if the finite numbers do not decide it."""
     if INFINITY in (a, b):
         return read(held if b == INFINITY else denied, bools)
     form = combined((1, a), (-1, b))
@@ -189,7 +189,7 @@ def asked(a, b, is_strict, held, denied, bools):
 
 
 def read(node, bools):
-    """The value of a formula where these Bools are known, or its next question."""
+    """Returns the value of a formula where these Bools are known, or its next comparison."""
     kind, parts = node.kind, list(node.parts)
     if kind == "value":
         return parts[0]
@@ -212,7 +212,7 @@ def read(node, bools):
 
 
 def chosen(kind, test, rest, bools):
-    """The value of a node that reads its other parts only where its first one asks for it, or its next question."""
+    """Returns the value of a node that reads its other parts only if its first one requires it, or its next comparison."""
     if kind in ("[", "?"):
         return ZERO if not test else {CONSTANT: 1} if kind == "[" else INFINITY
     if kind == "ite":
@@ -221,7 +221,7 @@ def chosen(kind, test, rest, bools):
 
 
 def compared(kind, type_name, values, bools):
-    """The value of a node whose parts have been read, or its own question."""
+    """Returns the value of a node whose parts have been read, or its own comparison."""
     (a, *others), no, yes = values, known(False), known(True)
     b = others[0] if others else None
     if kind == "goal":
@@ -267,7 +267,7 @@ class Row(typing.NamedTuple):
         return Row(combined((-1, self.form)), not self.is_strict)
 
     def tightened(self, types):
-        """The row in whole numbers, where whole variables leave no room between them."""
+        """Returns the row with integer numbers; if its variables are integers, the constant is rounded."""
         is_whole = not is_constant(self.form) and all(x == CONSTANT or types[x] in ("Int", "UInt") for x in self.form)
         scaled = [n for x, n in self.form.items() if not is_whole or x != CONSTANT]
         if not scaled:

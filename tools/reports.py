@@ -2,7 +2,7 @@
 
 
 def verdicts(report):
-    """What a report tells of each procedure, under its name twice, and of each loop with a ranking, under both names."""
+    """Returns the verdicts of a report on each procedure, under its name twice, and on each loop with a ranking, under both names."""
     found, procedure_name = {}, ""
     for line in report.splitlines()[:-1]:
         name, verdict = line.strip().split(": ", 1)

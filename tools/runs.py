@@ -92,7 +92,7 @@ class Runs:
         return [self.put(run._replace(state=state), targets, [run.state[x] for x in outputs])]
 
     def sum(self, runs, worth):
-        """The sum over runs of what each is worth, weighted."""
+        """Returns the sum over runs of `worth` of each, weighted."""
         found = ZERO
         for run in runs:
             found = self.goal.sum(found, self.goal.product(Value("UReal", False, run.weight), worth(run)))

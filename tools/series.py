@@ -44,7 +44,7 @@ def written(value):
 
 
 class Runs:
-    """Calls of `caesar run` in a folder of their own, where the script has other numbers of steps."""
+    """Calls of `caesar run` in a separate folder, where the script has other numbers of steps."""
 
     def __init__(self, program, folder, seconds):
         self.program, self.folder, self.end = program, folder, None if seconds is None else time.monotonic() + seconds

@@ -40,7 +40,7 @@ def written(part):
 class Terms:
     """The lines that declare constants, the names of the terms, and the operators that add to both. What is known of the
     parts, or by their types, gets no term, and the same parts share one. Plain terms are not shared, and the numbers in them
-    are left as they stand."""
+    are left as they are."""
 
     def __init__(self, is_plain=False):
         self.is_plain, self.lines, self.names, self.opposites = is_plain, [], {}, {}

@@ -1,4 +1,4 @@
-"""Writes files whose goals need splits of whole variables, and spoils certificates at such splits."""
+"""Writes files whose goals need splits of integer variables, and spoils certificates at such splits."""
 
 VARIABLES = [b"0", b"1", b"2", b"3", b"16", b"256", b"2147483648", b"4294967295", b"4294967296", b"00", b"-1", b""]
 NUMBERS = [
@@ -10,14 +10,14 @@ BELOW = [(b"s",), (b"t",), (b"f 0:1",), (b"f 0:1 1:4611686018427387903",), (b"f 
 
 
 def triangle(writer):
-    """Variables and conditions of a triangle without a whole point: its only corner with a whole second place has no whole first one."""
+    """Returns variables and conditions of a triangle without an integer point: its only corner with an integer second coordinate has none as its first."""
     steep, place = writer.randint(2, 6), writer.randint(0, 4)
     conditions = [f"y + {steep * place} <= {steep}*x", f"y + {steep}*x <= {steep * place + steep}", "1 <= y"]
     return ["x", "y"], conditions
 
 
 def line(writer):
-    """Variables and conditions of a line that meets no whole point between two places, or seldom one at the last of them."""
+    """Returns variables and conditions of a line that passes no integer point between two places, or seldom one at the last of them."""
     steep, other = writer.choice([(3, 2), (5, 2), (5, 3), (7, 5), (7, 3), (9, 6), (11, 4)])
     rest, least = writer.randint(1, steep - 1), writer.randint(0, 9)
     wide = 0
@@ -28,7 +28,7 @@ def line(writer):
 
 
 def procedure(writer, name):
-    """A procedure whose goal fails at the whole points of such a place alone."""
+    """Returns a procedure whose goal fails at the integer points of such a triangle or line alone."""
     variables, conditions = writer.choice([triangle, triangle, line])(writer)
     declared = [f"{x}: {writer.choice(['Int', 'UInt', 'UInt'])}" for x in writer.sample(variables, 2)]
     if writer.is_now(0.3):
@@ -51,7 +51,7 @@ def file(writer):
 
 
 def behind(lines, at):
-    """The number of the line behind the tree that begins at a line."""
+    """Returns the number of the line after the tree that begins at a line."""
     wanted = 1
     while wanted and at < len(lines):
         wanted += 1 if lines[at][:1] in (b"s", b"i") else -1

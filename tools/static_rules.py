@@ -26,8 +26,8 @@ def join(a, b):
 
 
 def type_of(node, scope, wanted=None, front=None):
-    """The type of an expression, which has to be one of `wanted`. `scope` has the types of the visible variables, and `front` is the word of a
-    quantifier that is allowed here. A parenthesis is a node of its own."""
+    """Returns the type of an expression, which has to be one of `wanted`. `scope` has the types of the visible variables, and `front` is the
+    keyword of a quantifier that is allowed here. A parenthesis is a separate node."""
     kind, *parts = node
     own, front, broken = (wanted, front, {}) if node.group is None else (None, None, {})
     if kind == "bind":

@@ -1,4 +1,4 @@
-"""Random goals over whole variables, a search through whole points for the states in which they fail, and what others say of them."""
+"""Random goals over integer variables, a search through integer points for the states in which they fail, and the answers of others on them."""
 import collections
 import functools
 import itertools
@@ -40,7 +40,7 @@ class Row:
 
 
 def real_between(rows, point, real):
-    """Whether some number that isn't negative meets all rows in which it stands, where the other variables have these values."""
+    """Returns whether some number that isn't negative satisfies all rows in which it occurs, where the other variables have these values."""
     low, high = (Fraction(0), False), (math.inf, False)
     for row in rows:
         end, is_strict = row.left(point) / Fraction(row.factors[real]), row.mark == "<"
@@ -52,8 +52,8 @@ def real_between(rows, point, real):
 
 
 class Goal:
-    """A procedure whose bound holds where no state meets all rows of one of its cases. Its variables are whole, but for a UReal in
-    some; where it is bounded, each case bounds each whole variable, and the search is through all of its points."""
+    """A procedure whose bound holds if no state satisfies all rows of one of its cases. Its variables are integers, but for a UReal in
+    some; where it is bounded, each case bounds each integer variable, and the search is through all of its points."""
 
     def __init__(self, writer):
         self.writer, self.real = writer, "r" if writer.is_now(0.3) else None
@@ -75,7 +75,7 @@ class Goal:
         return found
 
     def rows(self, near):
-        """One row, or two with a strip between them, which are met at a point or close to it."""
+        """Returns one row, or two with a strip between them, which are satisfied at a point or close to it."""
         names = self.writer.sample(list(self.types), min(len(self.types), self.writer.choice([1, 2, 2, 3])))
         names += [self.real] * (self.real is not None and self.writer.is_now(0.7))
         factors = {x: self.writer.choice(FACTORS) * self.writer.choice([1, -1]) for x in names}
@@ -98,7 +98,7 @@ class Goal:
         return f"{head} goal({inputs}) -> () pre {pre} post {holds} {{ }}\n"
 
     def fails_at(self, point):
-        """Whether the goal fails where the whole variables have these values, and the other one this or, without it, any."""
+        """Returns whether the goal fails where the integer variables have these values, and the other one this or, without it, any."""
         return any(self.meets(case, point) for case in self.cases)
 
     def meets(self, case, point):

@@ -1,4 +1,4 @@
-"""Writes random HeyVL files without a fault, by the grammar and the static rules of docs/LANGUAGE.md."""
+"""Writes random HeyVL files without an error, by the grammar and the static rules of docs/LANGUAGE.md."""
 import random
 from fractions import Fraction
 
@@ -82,7 +82,7 @@ class Writer(random.Random):
         ])
 
     def bound(self, scope, is_weak):
-        """A formula for a bound, where a weak one is often at most 1."""
+        """Returns a formula for a bound; in a proc with `@wlp` it is often at most 1."""
         if is_weak or self.is_now(0.4):
             return self.small(scope)
         if self.is_now(0.3):
@@ -165,7 +165,7 @@ class Body:
         return self.writer.choice([*CHANCES, "(3/4)", "1 + 1", *(form % test for form in tests)])
 
     def value(self, wanted, scope):
-        """What may stand behind the `=` of a variable of this type."""
+        """Returns what may follow the `=` of a variable of this type."""
         kind = self.writer.choice(["draw", "choose", "expression", "expression"])
         if kind == "draw":
             first = self.writer.randint(-2 if wanted == "Int" else 0, 2)
@@ -237,7 +237,7 @@ class Body:
         return f"@invariant({bound})" if is_short else f"@k_induction({self.writer.randint(1, 3)}, {bound})"
 
     def reward(self):
-        """What a turn costs, with its line."""
+        """Returns the cost of an iteration, with its line."""
         cost = 0 if self.head.is_weak else self.writer.randint(0, 2)
         return cost, [f"reward {cost}"] * (cost > 0)
 

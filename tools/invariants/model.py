@@ -55,7 +55,7 @@ def is_hole(procedure):
 class Loop:
     """A loop, or the entry of the procedure, which is number 0. `turn` gives the value of a state after one test;
     `template` is what the value of the loop is taken to be: a function of a state, and the value of `rule` where that
-    is given. States in `met` were met by runs; those in `pool` give rows; `finite` has the values of the variables that
+    is given. States in `met` were reached by runs; those in `pool` give rows; `finite` has the values of the variables that
     have few."""
 
     def __init__(self, model, number, types, scope, changed, guard, rule):
@@ -74,7 +74,7 @@ class Loop:
         self.pool.setdefault(self.key(state), state)
 
     def at(self, state):
-        """The value of the loop where it is met."""
+        """Returns the value of the loop in a state in which it begins."""
         here = {name: state.get(name) for name in self.scope}
         if self.model.seen is None:
             return self.template(here)
@@ -117,7 +117,7 @@ class Model:
         return valued(terms, self.rough)
 
     def met(self, loop, state):
-        """The loops that an iteration from a state meets, each with its state there."""
+        """Returns the loops that an iteration from a state reaches, each with its state there."""
         self.seen = found = []
         try:
             loop.turn(state)
@@ -231,7 +231,7 @@ class Model:
         return value_of
 
     def loop(self, statement, types, after):
-        """A loop where it is met. Its body is read with the loop after it."""
+        """Returns the function from a state to the value of the loop there. Its body is read with the loop after it."""
         _, rules, guard, body = statement
         targets, number = goals.targets_of(body), self.numbers[id(statement)]
         is_ranked = number == self.ranked

@@ -1,4 +1,4 @@
-"""What `tools/invariant` does with a file: its faults, the order of its procedures, a search for each, and the text
+"""What `tools/invariant` does with a file: its errors, the order of its procedures, a search for each, and the text
 that is written."""
 import time
 
@@ -62,7 +62,7 @@ class Proposer:
         return (STATUSES[NONE], None) if wrong or not found else (STATUSES[FOUND], text)
 
     def guarded(self, procedure, ranked=None):
-        """Proposes, and notes what came of it; tells what the proposer does not read, or finds too large."""
+        """Proposes, and records the result; reports what the proposer does not read, and what exceeds its limits."""
         name, result = procedure.name, NONE
         try:
             result = self.propose(procedure, ranked)

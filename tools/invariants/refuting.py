@@ -10,8 +10,8 @@ MOST_STATES, MOST_STARTS, TINY = 1500, 24, 1e-9
 
 
 def iterated(model, starts, seconds):
-    """The values of starts, which are functions, after as many iterations as there is time for: each state that is met
-    of a loop has its value as a coefficient."""
+    """Returns the values of starts, which are functions, after as many iterations as there is time for: each state in
+    which runs reach a loop has its value as a coefficient."""
     end, states, rows, change = time.time() + seconds, [], {}, 1.0
     loops = [loop for loop in model.loops.values() if loop.rule is None or loop.number == model.ranked]
     rough, templates, model.rough = model.rough, [loop.template for loop in loops], {}

@@ -1,4 +1,4 @@
-"""States at which the rows of the linear programs are asked: inputs, states that runs meet, and changed ones."""
+"""States at which the linear programs have rows: inputs, states that runs reach, and changed ones."""
 import itertools
 import random
 import time
@@ -88,7 +88,7 @@ class Samples:
         return value + (FAR if value >= 0 else -FAR) * self.random.choice([1, 1, 1, 2])
 
     def explore(self, until):
-        """Collects states that runs meet, until a time: first in any order, then those in which a variable is largest,
+        """Collects states that runs reach, until a time: first in any order, then those in which a variable is largest,
         which shows whether it has few values."""
         queues, chance = {loop: [] for loop in self.loops}, self.random
 
@@ -120,13 +120,13 @@ class Samples:
                 loop.finite[name] = sorted(found)
 
     def note_far(self, loop, state):
-        """Notes copies of a state in which a changed variable is far away."""
+        """Records copies of a state in which a changed variable is far away."""
         for name in loop.changed:
             if name in loop.scope and name not in loop.finite and is_number(state[name]):
                 loop.note({**state, name: state[name] + FAR})
 
     def vary(self, loop, count):
-        """Notes states of runs with some changed variables at other values."""
+        """Records states of runs with some changed variables at other values."""
         states = list(loop.met.values())
         for _ in range(count if states else 0):
             state = dict(self.random.choice(states))
@@ -138,7 +138,7 @@ class Samples:
 
     def learn(self, number, plain, marked):
         """Takes a state that `verify` shows: for the loop of this number where it is about one, else for the inputs and
-        what is met from there with the values of the choices, which have marks."""
+        the states reached from there with the values of the choices, which have marks."""
         model, heads = self.model, self.model.procedure.inputs + self.model.procedure.outputs
         if number:
             loop = model.loops[number]

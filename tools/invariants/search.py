@@ -65,7 +65,7 @@ class Search:
         return shortest(self, best)
 
     def found(self, shapes, limit):
-        """The invariants in these shapes that `verify` accepts; where numbers get too large, with rounded tables."""
+        """Returns the invariants in these shapes that `verify` accepts; if numbers overflow, with rounded tables."""
         reasons = []
         for self.slack in (0, *SLACKS):
             try:
@@ -77,8 +77,8 @@ class Search:
         raise reasons[0]
 
     def is_enough(self, total):
-        """Whether no better bound is worth the time: iterations show that there is none, or ten times what the first
-        one took is over."""
+        """Returns whether the search for a better bound ends: iterations show that there is none, or ten times what the
+        first one took is over."""
         if self.exact is None:
             self.first = time.time()
             self.exact = exact_total(self.model, self.aim, self.goals, min(self.seconds / 20, self.end - time.time()))
@@ -232,8 +232,8 @@ class Search:
         return rows + [mixed((1, b), (-1, a)) for a, b in zip(rows, more) if columns[0] == columns[1]]
 
     def rows_at(self, loop, state):
-        """That an iteration from a state keeps to the template, that its value is no less than 0, and in a weak proc no
-        more than 1."""
+        """Returns rows which say that an iteration from a state keeps to the template, and that its value is no less than
+        0, and in a proc with `@wlp` no more than 1."""
         model, rows, is_upper, is_open = self.model, [], self.model.is_upper, loop in self.loops
         model.sides.clear()
         here = loop.template(state)

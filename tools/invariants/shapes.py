@@ -1,5 +1,5 @@
-"""The shapes of templates that are tried, the cheapest first. What may be told apart is read off the program and the
-samples."""
+"""The shapes of templates that are tried, the cheapest first. What may be distinguished is read off the program and
+the samples."""
 import itertools
 from fractions import Fraction
 
@@ -81,8 +81,8 @@ class Shapes:
         return Shape(is_whole, tests, listed, features, facts, is_closed)
 
     def tables(self, loop, names, kind, has_facts):
-        """The variables that get tables, those with few rows first, each with its rows, and whether larger values are
-        told apart: a Bool has one row."""
+        """Returns the variables that get tables, those with few rows first, each with its rows, and whether larger values
+        are distinguished: a Bool has one row."""
         found, most = [], self.compared(loop) if kind == "constants" else {}
         for name in names:
             values = loop.finite.get(name, [])
@@ -107,8 +107,8 @@ class Shapes:
         return found
 
     def conditions(self, loop, names, closed, level):
-        """The conditions of a level that tell states apart: 1 those of the body, 2 and 3 those of the clauses and
-        bounds too, 4 comparisons of all variables."""
+        """Returns the conditions of a level that distinguish states: 1 those of the body, 2 and 3 those of the clauses
+        and bounds too, 4 comparisons of all variables."""
         numeric = [name for name in names if loop.types[name] == "UInt" and name not in closed]
         changed = [name for name in numeric if name in loop.changed]
         pairs = [(variable(x), variable(y)) for x, y in itertools.permutations(numeric, 2) if {x, y} & set(changed)]
@@ -148,7 +148,7 @@ class Shapes:
         return list(found.values())[:MOST_EXTRAS]
 
     def facts(self, loop, names):
-        """Conditions that hold in all states that were met: equalities, ranges and orders."""
+        """Returns conditions that hold in all states that runs reached: equalities, ranges and orders."""
         numeric, states = [name for name in names if loop.types[name] in ("UInt", "Int")], list(loop.met.values())
         found = []
         for name in numeric if states else ():

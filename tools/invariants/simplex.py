@@ -61,7 +61,7 @@ class LinearProgram:
         return float(row[0]) / (sum(abs(float(factor)) for factor in row[1].values()) + 1e-9)
 
     def pivot(self, leaving, entering):
-        """Exchanges a basic column and one that is not."""
+        """Pivots: the column `entering` becomes basic in place of `leaving`."""
         base, terms = self.rows.pop(leaving)
         inverse = 1 / Fraction(terms.pop(entering))
         row, at = {name: -factor * inverse for name, factor in terms.items()}, -base * inverse

@@ -23,7 +23,7 @@ def may_have_ranking(loop):
 
 class Source:
     """A file. `found` has what was found, by places: the rules of loops, and bounds in the place of `holes`, the pre
-    clauses `_`; of the procedures in `replaced` the rules of these words are `removed`."""
+    clauses `_`; of the procedures in `replaced` the rules with these names are `removed`."""
 
     def __init__(self, text, replaced=(), words=()):
         self.text, self.file, self.found, self.removed = text, heyvl.read(text), {}, []
@@ -101,13 +101,13 @@ class Source:
         return "".join([*parts, self.text[at:]]), edits
 
     def line(self, loop, rule):
-        """A rule before a loop: on a line of its own where the loop begins one."""
+        """Returns a rule before a loop: on a separate line if the loop begins one."""
         start = self.text.rfind("\n", 0, loop.start) + 1
         margin, line_end = self.text[start:loop.start], "\r\n" if self.text[:start].endswith("\r\n") else "\n"
         return rule + (" " if margin.strip() else line_end + margin)
 
     def placed(self, fault):
-        """The line of a fault of the text with holes filled, at its place in the file."""
+        """Returns the line of an error of the text with holes filled, at its place in the file."""
         text, edits = self.edited(only="")
         line, column, cause = fault
         start = sum(len(line) + 1 for line in text.split("\n")[:line - 1])
