@@ -1,4 +1,4 @@
-" `:compiler caesar`, then `:make`: verifies the file, and lists each place that is reported: faults, what is not verified or unknown at the
+" `:compiler caesar`, then `:make`: verifies the file, and lists each place that is reported: errors, what is not verified or unknown at the
 " procedure's name or the loop, a product at `nonlinear at L:C`, and a statement at `valid (L:C ..)`.
 if exists('g:current_compiler')
   finish
@@ -8,7 +8,7 @@ if exists(':CompilerSet') != 2
   command -nargs=* CompilerSet setlocal <args>
 endif
 
-" The tool beside this folder, else the one on PATH, else the program alone, whose report has places of faults only.
+" The tool beside this folder, else the one on PATH, else the program alone, whose report has places of errors only.
 let s:tool = expand('<sfile>:p:h:h:h:h') . '/tools/verify-all'
 if executable(s:tool)
   let s:command = shellescape(s:tool) . ' -- %:S'

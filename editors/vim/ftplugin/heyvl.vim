@@ -12,7 +12,7 @@ compiler caesar
 let s:tool = expand('<sfile>:p:h:h:h:h') . '/tools/format'
 let s:format = executable(s:tool) ? shellescape(s:tool) : 'format'
 
-" Lays out the buffer; where it has a fault, the buffer stays and the fault is shown.
+" Lays out the buffer; if it has an error, the buffer stays and the error is shown.
 function! s:format_buffer() abort
   let l:lines = systemlist(s:format . ' --breaks -', getline(1, '$'))
   if v:shell_error

@@ -5,7 +5,7 @@ endif
 syntax case match
 syntax iskeyword @,48-57,_
 
-" A byte at which no token begins (fault 1). Later groups take precedence over it.
+" A byte at which no token begins (error 1). Later groups take precedence over it.
 syntax match heyvlError /[^[:space:]]/
 syntax match heyvlIdentifier /\<\h\w*/
 syntax match heyvlNumber /\<\d\+\%(\.\d\+\)\=/
